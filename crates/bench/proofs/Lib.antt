@@ -1,0 +1,4 @@
+pub mod Overlays
+mod Writing
+mod Listings
+mod Rewrites

@@ -1,0 +1,4 @@
+pub mod Buffers
+pub mod Refusals
+pub mod Listing
+pub mod Rewriting

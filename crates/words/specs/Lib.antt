@@ -1,0 +1,10 @@
+pub mod Lines
+pub mod Fields
+pub mod Designs
+pub mod Encoding
+pub mod Kinds
+pub mod Refusals
+pub mod Questions
+pub mod Drafts
+pub mod Reading
+pub mod Bytes
