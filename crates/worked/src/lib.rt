@@ -1,0 +1,4 @@
+//! The worked designs and refusals, as tests.
+
+#[cfg(test)]
+mod reading;
