@@ -12,7 +12,14 @@ use words::input::InputWords;
 use words::reader::read_design;
 
 const DESIGN_E: [u32; 8] = [
-    0x10000002, 0x20000000, 0x30000040, 0x30000001, 0x20000021, 0x30000020, 0x40000000, 0x50000008,
+    0x10000002,
+    0x20000000,
+    0x30000040,
+    0x30000001,
+    0x20000021,
+    0x30000020,
+    0x40000000,
+    0x50000008,
 ];
 
 /// What reading refuses, if it does.
@@ -53,9 +60,20 @@ fn design_e_writes_back() -> Result<(), Fail> {
     let design = read_design(&DESIGN_E)?;
     let mut words = [7; 9];
     check_eq(write_design(&design, &mut words)?, 8)?;
-    check(words == [
-        0x10000002, 0x20000000, 0x30000040, 0x30000001, 0x20000021, 0x30000020, 0x40000000, 0x50000008, 7,
-    ])
+    check(
+        words
+            == [
+                0x10000002,
+                0x20000000,
+                0x30000040,
+                0x30000001,
+                0x20000021,
+                0x30000020,
+                0x40000000,
+                0x50000008,
+                7,
+            ],
+    )
 }
 
 #[test]
@@ -89,9 +107,18 @@ fn each_question_refuses() -> Result<(), Fail> {
     check_eq(refusal_of(&[0x10000021]), by_words(3, 0))?;
     check_eq(refusal_of(&[0x10000001, 0x20000001]), by_words(3, 1))?;
     check_eq(refusal_of(&[0x10000002, 0x20000001]), by_words(4, 1))?;
-    check_eq(refusal_of(&[0x10000001, 0x20000000, 0x30000020, 0x30000000]), by_words(4, 3))?;
-    check_eq(refusal_of(&[0x10000001, 0x20000000, 0x40000000, 0x50000005]), by_words(5, 3))?;
-    check_eq(refusal_of(&[0x10000001, 0x20000000, 0x40000000, 0x50000004, 0]), by_words(5, 3))
+    check_eq(
+        refusal_of(&[0x10000001, 0x20000000, 0x30000020, 0x30000000]),
+        by_words(4, 3),
+    )?;
+    check_eq(
+        refusal_of(&[0x10000001, 0x20000000, 0x40000000, 0x50000005]),
+        by_words(5, 3),
+    )?;
+    check_eq(
+        refusal_of(&[0x10000001, 0x20000000, 0x40000000, 0x50000004, 0]),
+        by_words(5, 3),
+    )
 }
 
 #[test]
