@@ -4,11 +4,12 @@
     python3 tools/console_cases.py CONSOLE DIR
 
 DIR/stdin has an input a line, as hexadecimal bytes, and DIR/stdout what each must print. A listing ends with status 0, and a refusal,
-which is one line, with status 1.
+which is one line, with status 1. Some inputs are given again in two parts, the second a little later.
 """
 
 import subprocess
 import sys
+import time
 from collections.abc import Iterator
 from pathlib import Path
 
@@ -26,17 +27,42 @@ def cases(folder: Path) -> Iterator[tuple[bytes, bytes]]:
         yield bytes.fromhex(given), "".join(wanted).encode("ascii")
 
 
+Ran = tuple[bytes, bytes, int]
+
+
+def at_once(console: str, given: bytes) -> Ran:
+    ran = subprocess.run([console], input=given, capture_output=True)
+    return ran.stdout, ran.stderr, ran.returncode
+
+
+def in_parts(console: str, given: bytes) -> Ran:
+    pipe = subprocess.PIPE
+    with subprocess.Popen([console], stdin=pipe, stdout=pipe, stderr=pipe) as running:
+        assert running.stdin
+        running.stdin.write(given[: len(given) // 2])
+        running.stdin.flush()
+        time.sleep(0.05)
+        out, err = running.communicate(given[len(given) // 2 :])
+        return out, err, running.returncode
+
+
+def is_wrong(number: int, ran: Ran, wanted: bytes) -> bool:
+    status = 1 if wanted.startswith(b"refused ") else 0
+    if ran == (wanted, b"", status):
+        return False
+    print(f"case {number}: status {ran[2]}, printed {ran[0][:80]!r}")
+    return True
+
+
 def main() -> int:
     console, folder = sys.argv[1], Path(sys.argv[2])
-    wrong = total = 0
-    for total, (given, wanted) in enumerate(cases(folder), 1):
-        ran = subprocess.run([console], input=given, capture_output=True)
-        status = 1 if wanted.startswith(b"refused ") else 0
-        if (ran.stdout, ran.stderr, ran.returncode) != (wanted, b"", status):
-            wrong += 1
-            print(f"case {total - 1}: status {ran.returncode}, printed {ran.stdout[:80]!r}")
-    print(f"console: {total} inputs, {wrong} wrong")
-    return 1 if wrong else 0
+    all_cases = list(enumerate(cases(folder)))
+    wrong = sum(is_wrong(number, at_once(console, given), wanted) for number, (given, wanted) in all_cases)
+    print(f"console: {len(all_cases)} inputs, {wrong} wrong")
+    parted = all_cases[::40]
+    late = sum(is_wrong(number, in_parts(console, given), wanted) for number, (given, wanted) in parted)
+    print(f"console: {len(parted)} inputs in two parts, {late} wrong")
+    return 1 if wrong or late else 0
 
 
 sys.exit(main())

@@ -2,14 +2,13 @@
 use mathlib.Core.Path.{_≡_, refl, sym, ap, ap₂, _∙_}
 use mathlib.Core.List.{List, [], _∷_, _++_, map}
 use Prim.Native.Nat.{ℕ, _+_, _-_, _*_, _/_, _^_, _<_, _≤_}
-use native.Mathlib.Nat.{add-zero}
 use native.Mathlib.Omega.{arith}
 use lib.Bits.{bitAnd}
-use lib.ListN.{length, take, drop, getD, set}
+use lib.ListN.{length, take, getD, set}
 use Rattle.std.specs.Iters.{counting}
 use Rattle.std.proofs.shelf.Bits.{and-mask}
 use Rattle.std.proofs.shelf.Counted.{map-counting-more, length-map-counting}
-use Rattle.std.proofs.shelf.Lists.{joined-more, length-append, take-more, take-all, length-take-le, take-at}
+use Rattle.std.proofs.shelf.Lists.{joined-more, length-append, take-more, length-take-le}
 use Rattle.bench.specs.Buffers.{overlaid}
 use Rattle.bench.specs.Listing.{digit, digit-at, line-of, listed}
 use Rattle.bench.proofs.Overlays.{overlaid-more, overlaid-join}

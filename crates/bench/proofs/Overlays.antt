@@ -1,12 +1,12 @@
 -- Laws of a buffer that is written over.
-use mathlib.Core.Path.{_≡_, refl, sym, ap, _∙_}
+use mathlib.Core.Path.{_≡_, sym, ap, _∙_}
 use mathlib.Core.List.{List, [], _∷_, _++_, append-assoc}
 use Prim.Native.Nat.{ℕ, _+_, _<_, _≤_}
-use native.Mathlib.Nat.{add-assoc, add-zero}
+use native.Mathlib.Nat.{add-zero}
 use native.Mathlib.Numerals.{add-one}
 use native.Mathlib.Omega.{arith}
 use lib.ListN.{length, set, take, drop, getD}
-use Rattle.std.proofs.shelf.Lists.{append-nil, length-append, length-drop, length-take-le, length-push, take-append-drop, take-at, drop-at, drop-drop, drop-more, set-at, set-split}
+use Rattle.std.proofs.shelf.Lists.{length-append, length-drop, length-take-le, length-push, take-append-drop, take-at, drop-at, drop-drop, drop-more, set-at, set-split}
 use Rattle.std.specs.declared.result.Result.{Result}
 use Rattle.std.specs.declared.result.Result.the-variants.{Ok, Err}
 use Rattle.std.proofs.shelf.Tests.{true≢false, cond-true, cond-false, lt-ltb, le-ltb, cases-lt}

@@ -1,18 +1,17 @@
 -- The ways out of rewriting.
-use mathlib.Core.Path.{_≡_, refl, sym, ap, subst, _∙_}
-use mathlib.Core.Bool.{Bool, true, false, cond}
+use mathlib.Core.Path.{_≡_, refl, sym, ap, _∙_}
+use mathlib.Core.Bool.{true}
 use mathlib.Core.List.{List}
 use mathlib.Core.Logic.{⊎-elim}
 use Prim.Native.Nat.{ℕ, _-_, _<_, _≤_}
 use native.Mathlib.Omega.{arith}
 use lib.ListN.{length, take}
-use lib.Dec.{ltb}
 use Rattle.std.specs.Options.{isSome}
 use Rattle.std.specs.Results.{Cases, isOk}
 use Rattle.std.specs.declared.option.Option.the-variants.{Some, None}
 use Rattle.std.specs.declared.result.Result.{Result}
 use Rattle.std.specs.declared.result.Result.the-variants.{Ok, Err}
-use Rattle.std.proofs.shelf.Tests.{true≢false, cases-bool, cond-true, cond-false, ltb-true, ltb-false, both-ways, lt-ltb, le-ltb, cases-lt}
+use Rattle.std.proofs.shelf.Tests.{true≢false, cond-true, lt-ltb, cases-lt}
 use Rattle.words.specs.declared.faults.Fault.{Fault}
 use Rattle.words.specs.declared.graph.Graph.{Graph}
 use Rattle.words.specs.declared.design.Design.{Design}

@@ -1,4 +1,14 @@
+pub mod First
+pub mod Firing
+pub mod Retimings
+pub mod Orders
+pub mod Cycles
+pub mod Walks
+pub mod Moves
+pub mod Verdicts
+pub mod Calls
 pub mod Buffers
 pub mod Refusals
 pub mod Listing
+pub mod Opening
 pub mod Rewriting

@@ -1,6 +1,15 @@
-//! The bench: so far its lowest piece, writing designs and listing words.
+//! The bench: a design slowed, lagged and settled; writing designs and listing words.
 
+pub mod bench;
+pub mod calls;
+mod delays;
 mod encode;
+mod firing;
 pub mod listing;
+mod moves;
+mod opening;
+pub mod order;
+pub mod retiming;
 pub mod rewriting;
+pub mod verdict;
 pub mod writer;

@@ -6,7 +6,7 @@ use words::faults::BenchFault;
 use words::faults::Fault;
 use words::graph::Node;
 ghost use mathlib.Core.Path.{_≡_};
-ghost use mathlib.Core.List.{_∷_, _++_};
+ghost use mathlib.Core.List.{_∷_};
 ghost use Prim.Native.Nat.{_+_, _<_, _≤_};
 ghost use lib.ListN.{length};
 ghost use Rattle.words.specs.Encoding.{encoded, node-word, feed-words, node-words};

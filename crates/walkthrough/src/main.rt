@@ -1,6 +1,8 @@
-//! Design E, from its words to a design and back: each action, and its answer.
+//! Design E, from its words to a design and back, and settled on the bench: each action, and its answer.
 
+use bench::bench::Bench;
 use bench::rewriting::rewrite;
+use bench::verdict::Verdict;
 use bench::writer::write_design;
 use std::error::AnyError;
 use std::io;
@@ -8,6 +10,7 @@ use words::design::Design;
 use words::faults::Fault;
 use words::faults::FaultDisplay;
 use words::graph::INPUT;
+use words::graph::MAX_NODES;
 use words::graph::Node;
 use words::graph::Output;
 use words::reader::read_design;
@@ -97,10 +100,10 @@ fn write_aloud(rt: &LibcRuntime, design: &Design, words: &mut [u32]) -> Result<u
     }
 }
 
-fn run(rt: &LibcRuntime) -> Result<(), AnyError> {
-    let design = read_aloud(rt, &DESIGN_E)?;
+/// Writes the design back and reads it again.
+fn round_trip(rt: &LibcRuntime, design: &Design) -> Result<(), AnyError> {
     let mut words = [0; 16];
-    let count = write_aloud(rt, &design, &mut words)?;
+    let count = write_aloud(rt, design, &mut words)?;
     let Some(written) = words.get(0..count) else {
         return Err("more words than the buffer has".into());
     };
@@ -116,6 +119,81 @@ fn run(rt: &LibcRuntime) -> Result<(), AnyError> {
         }
         Err(fault) => Err(refused(rt, fault)),
     }
+}
+
+/// The current delays of one node's feeds, in the z-notation.
+fn print_node_delays(rt: &LibcRuntime, bench: &Bench, node: usize, lag: u16) -> io::Result<()> {
+    print!(rt, "  v{node} lags {lag}, hears")?;
+    for source in 0..INPUT {
+        if let Some(delay) = bench.delay(node, source) {
+            print!(rt, " z^-{delay} v{source}")?;
+        }
+    }
+    if let Some(delay) = bench.delay(node, INPUT) {
+        print!(rt, " z^-{delay} x")?;
+    }
+    println!(rt, "")
+}
+
+fn print_verdict(rt: &LibcRuntime, verdict: Verdict) -> io::Result<()> {
+    match verdict {
+        Verdict::Systolic => println!(rt, "  systolic"),
+        Verdict::C1 { node, source } => {
+            println!(rt, "  not systolic: v{node} hears v{source} at delay 0")
+        }
+        Verdict::C2 {
+            source,
+            smaller,
+            larger,
+        } => println!(
+            rt,
+            "  not systolic: v{smaller} and v{larger} hear source {source} at one delay"
+        ),
+    }
+}
+
+/// Prints K and L, each node's lag and current delays, the firing order and the verdict.
+fn print_bench(rt: &LibcRuntime, bench: &Bench) -> io::Result<()> {
+    let (factor, latency) = bench.timing();
+    println!(rt, "  K = {factor}, L = {latency}")?;
+    for node in 0..MAX_NODES {
+        if let Some(lag) = bench.lag_of(node) {
+            print_node_delays(rt, bench, node, lag)?;
+        }
+    }
+    let order = bench.order();
+    print!(rt, "  firing order")?;
+    for node in order.nodes.iter().take(order.count) {
+        print!(rt, " v{node}")?;
+    }
+    println!(rt, "")?;
+    print_verdict(rt, bench.verdict())
+}
+
+/// Opens a bench on the design and settles it.
+fn settle_aloud(rt: &LibcRuntime, design: &Design) -> Result<(), AnyError> {
+    let mut cycle = [0; MAX_NODES];
+    let bench = match Bench::open(design, &mut cycle) {
+        Ok(bench) => bench,
+        Err(fault) => return Err(refused(rt, fault)),
+    };
+    println!(rt, "opened on a bench:")?;
+    print_bench(rt, &bench)?;
+    let mut bench = bench;
+    match bench.settle() {
+        Ok(()) => {
+            println!(rt, "settled:")?;
+            print_bench(rt, &bench)?;
+            Ok(())
+        }
+        Err(fault) => Err(refused(rt, fault)),
+    }
+}
+
+fn run(rt: &LibcRuntime) -> Result<(), AnyError> {
+    let design = read_aloud(rt, &DESIGN_E)?;
+    round_trip(rt, &design)?;
+    settle_aloud(rt, &design)
 }
 
 fn main(rt: LibcRuntime) -> Result<(), AnyError> {

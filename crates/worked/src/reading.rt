@@ -1,5 +1,6 @@
 //! Design E read, written and listed, and one refusal by each question of reading and writing.
 
+use crate::designs::DESIGN_E;
 use bench::listing::list_design;
 use bench::writer::write_design;
 use std::test::*;
@@ -10,17 +11,6 @@ use words::faults::FaultPartialEq;
 use words::faults::WordsFault;
 use words::input::InputWords;
 use words::reader::read_design;
-
-const DESIGN_E: [u32; 8] = [
-    0x10000002,
-    0x20000000,
-    0x30000040,
-    0x30000001,
-    0x20000021,
-    0x30000020,
-    0x40000000,
-    0x50000008,
-];
 
 /// What reading refuses, if it does.
 fn refusal_of(words: &[u32]) -> Option<Fault> {

@@ -1,13 +1,10 @@
-use mathlib.Core.Path.{_≡_, sym, ap, subst, _∙_}
-use mathlib.Core.List.{List}
-use Prim.Native.Nat.{ℕ, _-_, _≤_}
+use mathlib.Core.Path.{_≡_, sym, ap, subst}
+use Prim.Native.Nat.{_-_, _≤_}
 use native.Mathlib.Omega.{arith}
-use lib.ListN.{length, take}
+use lib.ListN.{length}
 use Rattle.std.specs.Results.{isOk}
-use Rattle.std.specs.declared.result.Result.the-variants.{Ok, Err}
 use Rattle.std.proofs.shelf.Tests.{true≢false}
 use Rattle.words.specs.declared.graph.Graph.{Graph}
-use Rattle.words.specs.declared.faults.Fault.{Fault}
 use Rattle.words.specs.Encoding.{encoded}
 use Rattle.words.proofs.Ranges.{ranges}
 use Rattle.bench.specs.Buffers.{Written}
