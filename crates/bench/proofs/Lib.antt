@@ -10,6 +10,7 @@ mod Settling
 mod Judging
 mod Settled
 mod Sending
+mod Emitting
 pub mod Soundness
 pub mod Overlays
 mod Outcomes

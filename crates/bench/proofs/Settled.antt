@@ -25,7 +25,7 @@ use Rattle.bench.proofs.Moved.{lag-moved}
 use Rattle.bench.proofs.Ordered.{source-node}
 
 -- a current delay is that of a feed
-fed : (g : Graph) (q : Retiming) (i j d : ℕ) → current-delay g q i j ≡ Some d → (a : ℕ) × (feed-at g i j ≡ Some a) × (delay-of q i j a ≡ d)
+pub fed : (g : Graph) (q : Retiming) (i j d : ℕ) → current-delay g q i j ≡ Some d → (a : ℕ) × (feed-at g i j ≡ Some a) × (delay-of q i j a ≡ d)
 fed g q i j d h = by (feed-at g i j) refl h
   where
     by : (o : Option ℕ) → feed-at g i j ≡ o → mapped (delay-of q i j) (feed-at g i j) ≡ Some d → (a : ℕ) × (feed-at g i j ≡ Some a) × (delay-of q i j a ≡ d)

@@ -25,6 +25,20 @@ pub(crate) fn short_buffer(given: usize, needed: usize) -> Fault
     })
 }
 
+/// Writes words to the front of a buffer, and answers how many there are.
+pub(crate) fn write_words(from: &[u32], words: &mut [u32]) -> Result<usize, Fault>
+    ensures { λ r. ⌜ Written (now (from .entry)) (now (words .entry)) (now (words .exit)) r ⌝ }
+{
+    let needed = from.len();
+    if words.len() < needed {
+        return Err(short_buffer(words.len(), needed));
+    }
+    for (k, word) in from.iter().enumerate() {
+        words[k] = *word;
+    }
+    Ok(needed)
+}
+
 /// Writes a node and its feeds from place `at` on, and answers the place after them.
 fn write_node(number: usize, node: &Node, words: &mut [u32], at: usize) -> usize
     requires number { ⌜ number < 32 ⌝ }

@@ -2,6 +2,7 @@ pub mod Lines
 pub mod Fields
 pub mod Designs
 pub mod Encoding
+pub mod Programs
 pub mod Kinds
 pub mod Refusals
 pub mod Questions
