@@ -34,6 +34,14 @@ a current delay of at least 1; by node, then source.  C2: the feeds from one
 source have distinct current delays; by source, then the pair's smaller and
 larger node.  C1 comes before C2.
 
+The array program is a list of words, bits 31 to 28 the kind: a head (8: n, K
+from bit 6), a line for each node and then the input (9: source, length from
+bit 6), the cells in firing order (10: node, operation from bit 5, lag from
+bit 13), each followed by its taps by source (11: source, delay from bit 6),
+the output (12: node, delay from bit 6) and the end (13: the number of words).
+A line is as long as the greatest delay at which a tap or the output reads its
+source.
+
 The moves, with the questions of each in order:
 
     slow f   K and all lags are multiplied by f              12 13 10 11
@@ -211,6 +219,19 @@ class Bench:
         ]
         return "C2 {} {} {}".format(*min(clashes)) if clashes else "systolic"
 
+    def program(self) -> Row:
+        delays = self.delays()
+        node, _ = self.design.output
+        reads = [(j, delay) for (_, j), delay in delays.items()] + [(node, self.output_delay())]
+        words = [8 << 28 | self.factor << 6 | self.count]
+        for source in [*range(self.count), INPUT]:
+            words.append(9 << 28 | max([d for j, d in reads if j == source], default=0) << 6 | source)
+        for i in self.order():
+            words.append(10 << 28 | self.lags[i] << 13 | self.design.nodes[i].operation << 5 | i)
+            words += [11 << 28 | delay << 6 | j for (k, j), delay in delays.items() if k == i]
+        words.append(12 << 28 | self.output_delay() << 6 | node)
+        return [*words, 13 << 28 | len(words) + 1]
+
     def check(self) -> None:
         for node, lag in enumerate(self.lags):
             ask(10, node, 0, 0 <= lag <= MOST_LAG)
@@ -253,6 +274,7 @@ class Bench:
         yield " ".join(map(str, ["order", *self.order()]))
         yield " ".join(map(str, ["ranks", *self.ranks()]))
         yield self.verdict()
+        yield " ".join(["program", *(f"{word:08X}" for word in self.program())])
 
 
 # ---------------------------------------------------------------- cases
@@ -521,6 +543,7 @@ def worked_case() -> Case:
         "order 0 1",
         "ranks 0 1",
         "systolic",
+        "program 80000302 90000300 90000041 90000020 A0002000 B0000300 B0000041 A0000021 B0000020 C0000000 D000000B",
     ]
     return case
 

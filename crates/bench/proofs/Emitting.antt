@@ -1,22 +1,22 @@
 -- The steps of emitting a program.
-use mathlib.Core.Path.{_≡_, refl, sym, ap, ap₂, subst, _∙_}
+use mathlib.Core.Path.{_≡_, refl, sym, ap, subst, _∙_}
 use mathlib.Core.Bool.{Bool, true, false, cond}
-use mathlib.Core.List.{List, [], _∷_, _++_, append-assoc}
+use mathlib.Core.List.{List, _++_, append-assoc}
 use mathlib.Core.Logic.{_⊎_, inl, inr, ⊎-elim}
 use Prim.Native.Nat.{ℕ, zero, suc, _+_, _<_, _≤_}
 use native.Mathlib.Numerals.{add-one}
 use native.Mathlib.Omega.{arith}
-use lib.Dec.{eqb, ltb}
-use Rattle.std.specs.Options.{valueOr, isSome}
+use lib.Dec.{eqb}
+use Rattle.std.specs.Options.{valueOr}
 use Rattle.std.specs.declared.option.Option.{Option}
 use Rattle.std.specs.declared.option.Option.the-variants.{None, Some}
 use Rattle.std.proofs.shelf.Lists.{append-nil}
-use Rattle.std.proofs.shelf.Tests.{true≢false, cases-lt, cases-eq, cond-true, cond-false, lt-ltb, le-ltb, eq-eqb, ne-eqb}
+use Rattle.std.proofs.shelf.Tests.{cases-lt, cases-eq, cond-true, cond-false, lt-ltb, le-ltb, eq-eqb, ne-eqb}
 use Rattle.words.specs.declared.graph.Graph.{Graph}
-use Rattle.words.specs.Designs.{InRange, feed-at}
+use Rattle.words.specs.Designs.{InRange}
 use Rattle.bench.specs.declared.retiming.Retiming.{Retiming}
-use Rattle.bench.specs.Programs.{in-turn, greater, output-reach, reach, line-length, Reaches, tap-if, taps}
-use Rattle.bench.specs.Retimings.{Sound, current-delay, output-delay, delay-of, max-delay}
+use Rattle.bench.specs.Programs.{in-turn, greater, output-reach, reach, line-length, Reaches, taps}
+use Rattle.bench.specs.Retimings.{Sound, current-delay, output-delay, max-delay}
 use Rattle.bench.proofs.Settled.{fed}
 use Rattle.bench.proofs.Soundness.{feed-inside}
 
@@ -130,9 +130,9 @@ module _ (g : Graph) (p : Retiming) (j : ℕ) where
   met (suc k) =
       ⊎-elim
       (λ (h : (greater (reach g p j k) (valueOr (current-delay g p k j) 0) ≡ reach g p j k) × (valueOr (current-delay g p k j) 0 ≤ reach g p j k)).
-        subst (Met (suc k)) (sym (h .0)) (met-more k (reach g p j k) (met k)))
+      subst (Met (suc k)) (sym (h .0)) (met-more k (reach g p j k) (met k)))
       (λ (h : (greater (reach g p j k) (valueOr (current-delay g p k j) 0) ≡ valueOr (current-delay g p k j) 0) × (reach g p j k < valueOr (current-delay g p k j) 0)).
-        subst (Met (suc k)) (sym (h .0)) (here (current-delay g p k j) refl (omega (arith, h .1))))
+      subst (Met (suc k)) (sym (h .0)) (here (current-delay g p k j) refl (omega (arith, h .1))))
       (greater-either (reach g p j k) (valueOr (current-delay g p k j) 0))
     where
       here : (o : Option ℕ) → current-delay g p k j ≡ o → 0 < valueOr o 0 → Met (suc k) (valueOr (current-delay g p k j) 0)

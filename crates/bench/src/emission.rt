@@ -2,9 +2,9 @@
 
 use crate::bench::Bench;
 use crate::encode;
+use crate::listing::list_words;
 use crate::program::MAX_PROGRAM_WORDS;
 use crate::program::ProgramWords;
-use crate::listing::list_words;
 use crate::writer::write_words;
 use words::faults::Fault;
 use words::graph::INPUT;
@@ -45,11 +45,7 @@ impl ProgramWords {
 fn line_source(count: usize, place: usize) -> usize
     ensures { λ r. ⌜ r ≡ line-source count place ⌝ }
 {
-    if place == count {
-        INPUT
-    } else {
-        place
-    }
+    if place == count { INPUT } else { place }
 }
 
 impl Bench {

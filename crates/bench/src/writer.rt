@@ -29,14 +29,14 @@ pub(crate) fn short_buffer(given: usize, needed: usize) -> Fault
 pub(crate) fn write_words(from: &[u32], words: &mut [u32]) -> Result<usize, Fault>
     ensures { λ r. ⌜ Written (now (from .entry)) (now (words .entry)) (now (words .exit)) r ⌝ }
 {
-    let needed = from.len();
-    if words.len() < needed {
-        return Err(short_buffer(words.len(), needed));
+    let count = from.len();
+    if words.len() < count {
+        return Err(short_buffer(words.len(), count));
     }
     for (k, word) in from.iter().enumerate() {
         words[k] = *word;
     }
-    Ok(needed)
+    Ok(count)
 }
 
 /// Writes a node and its feeds from place `at` on, and answers the place after them.

@@ -1,6 +1,7 @@
 //! Reads designs with moves, one case a line, and prints for each what its bench answers and how it stands at the end.
 
 use bench::bench::Bench;
+use bench::program::MAX_PROGRAM_WORDS;
 use bench::verdict::Verdict;
 use std::error::AnyError;
 use std::io;
@@ -147,13 +148,28 @@ fn print_verdict(rt: &LibcRuntime, bench: &Bench) -> io::Result<()> {
     }
 }
 
+fn print_program(rt: &LibcRuntime, bench: &Bench) -> io::Result<()> {
+    let mut words = [0; MAX_PROGRAM_WORDS];
+    print!(rt, "program")?;
+    match bench.emit(&mut words) {
+        Ok(count) => {
+            for word in words.iter().take(count) {
+                print!(rt, " {word:08X}")?;
+            }
+            println!(rt, "")
+        }
+        Err(fault) => println!(rt, " {fault}"),
+    }
+}
+
 fn print_bench(rt: &LibcRuntime, bench: &Bench) -> io::Result<()> {
     let (factor, latency) = bench.timing();
     println!(rt, "timing {factor} {latency}")?;
     print_lags(rt, bench)?;
     print_delays(rt, bench)?;
     print_order(rt, bench)?;
-    print_verdict(rt, bench)
+    print_verdict(rt, bench)?;
+    print_program(rt, bench)
 }
 
 fn print_moves(rt: &LibcRuntime, bench: &mut Bench, moves: &str) -> Result<(), AnyError> {

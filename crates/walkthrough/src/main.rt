@@ -1,4 +1,4 @@
-//! Design E, from its words to a design and back, and settled on the bench: each action, and its answer.
+//! Design E, from its words to a design and back, settled on the bench and emitted: each action, and its answer.
 
 use bench::bench::Bench;
 use bench::rewriting::rewrite;
@@ -170,7 +170,22 @@ fn print_bench(rt: &LibcRuntime, bench: &Bench) -> io::Result<()> {
     print_verdict(rt, bench.verdict())
 }
 
-/// Opens a bench on the design and settles it.
+/// Emits the array program and prints its words.
+fn emit_aloud(rt: &LibcRuntime, bench: &Bench) -> Result<(), AnyError> {
+    let mut words = [0; 16];
+    match bench.emit(&mut words) {
+        Ok(count) => {
+            println!(rt, "emitted, the array program is {count} words:")?;
+            for word in words.iter().take(count) {
+                println!(rt, "  {word:08X}")?;
+            }
+            Ok(())
+        }
+        Err(fault) => Err(refused(rt, fault)),
+    }
+}
+
+/// Opens a bench on the design, settles it and emits its program.
 fn settle_aloud(rt: &LibcRuntime, design: &Design) -> Result<(), AnyError> {
     let mut cycle = [0; MAX_NODES];
     let bench = match Bench::open(design, &mut cycle) {
@@ -184,7 +199,7 @@ fn settle_aloud(rt: &LibcRuntime, design: &Design) -> Result<(), AnyError> {
         Ok(()) => {
             println!(rt, "settled:")?;
             print_bench(rt, &bench)?;
-            Ok(())
+            emit_aloud(rt, &bench)
         }
         Err(fault) => Err(refused(rt, fault)),
     }

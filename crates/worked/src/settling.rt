@@ -167,3 +167,42 @@ fn calls_in_a_list() -> Result<(), Fail> {
     check_eq(bench.lag_of(0), Some(6))?;
     check_eq(bench.lag_of(1), Some(1))
 }
+
+#[test]
+fn design_e_emits() -> Result<(), Fail> {
+    let mut bench = opened(&DESIGN_E)?;
+    bench.settle()?;
+    let mut words = [7; 12];
+    check_eq(bench.emit(&mut words)?, 11)?;
+    check(
+        words
+            == [
+                0x80000082,
+                0x90000080,
+                0x90000041,
+                0x90000020,
+                0xA0002000,
+                0xB0000080,
+                0xB0000041,
+                0xA0000021,
+                0xB0000020,
+                0xC0000000,
+                0xD000000B,
+                7,
+            ],
+    )
+}
+
+#[test]
+fn short_program_buffers_stay() -> Result<(), Fail> {
+    let mut bench = opened(&DESIGN_E)?;
+    bench.settle()?;
+    let mut words = [7; 10];
+    let answer = bench.emit(&mut words);
+    check(answer.is_err())?;
+    check(words == [7; 10])?;
+    let mut text = [7; 99];
+    check_eq(bench.list(&mut text)?, 99)?;
+    check_eq(text[0], b'8')?;
+    check_eq(text[98], b'\n')
+}

@@ -1,5 +1,5 @@
-use mathlib.Core.Path.{_≡_, refl, sym, ap, ap₂, _∙_}
-use mathlib.Core.List.{List, [], _∷_, _++_}
+use mathlib.Core.Path.{_≡_, sym, ap, _∙_}
+use mathlib.Core.List.{List}
 use Prim.Native.Nat.{ℕ, _+_, _<_, _≤_}
 use native.Mathlib.Omega.{arith}
 use lib.ListN.{length, getD, take, set}
@@ -19,11 +19,11 @@ copied-more b from k l room =
 pub loop-k-again : need.loop-k-again
 loop-k-again c =
     ap (λ b. set b (c .loop-k .k) (getD (c .args .from .now) (c .loop-k .k) 0)) (c .loop-k .inv)
-    ∙ copied-more (c .args .words .now) (c .args .from .now) (c .loop-k .k) (c .loop-k-test .taken) (omega (arith, c .if-words-needed .left))
+    ∙ copied-more (c .args .words .now) (c .args .from .now) (c .loop-k .k) (c .loop-k-test .taken) (omega (arith, c .if-words-count .left))
 
 pub returns : need.returns
 returns c =
-    let room : length (c .args .from .now) ≤ length (c .args .words .now) = omega (arith, c .if-words-needed .left) in
+    let room : length (c .args .from .now) ≤ length (c .args .words .now) = omega (arith, c .if-words-count .left) in
     let no′ = le-ltb (length (c .args .words .now)) (length (c .args .from .now)) room in
     record {
       answer = sym (cond-false _ _ _ no′);

@@ -1,4 +1,4 @@
-use mathlib.Core.Path.{_≡_, refl, sym, ap, _∙_}
+use mathlib.Core.Path.{_≡_, sym, ap, _∙_}
 use native.Mathlib.Omega.{arith}
 use Prim.Native.Nat.{ℕ}
 use Rattle.std.proofs.shelf.Tests.{cond-true, cond-false, eq-eqb, ne-eqb}
@@ -6,7 +6,6 @@ use Rattle.words.specs.declared.graph.Graph.{Graph}
 use Rattle.words.specs.declared.graph.Output.{Output}
 use Rattle.bench.specs.Retimings.{output-delay}
 use Rattle.bench.specs.declared.retiming.Retiming.{Retiming}
-use Rattle.bench.specs.Programs.{output-reach, reach}
 use Rattle.bench.proofs.Emitting.{reach-first, reach-none, reach-more, reach-same}
 use Rattle.bench.proofs.bench.Bench.line_length.Needs as need
 use Rattle.bench.proofs.bench.Bench.line_length.Needs.{then-output-source, else-output-source, in-Some·then-length-delay, in-Some·else-length-delay, in-rest}

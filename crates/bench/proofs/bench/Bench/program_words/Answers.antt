@@ -1,14 +1,13 @@
-use mathlib.Core.Path.{_≡_, refl, sym, ap, ap₂, _∙_}
-use mathlib.Core.List.{List, [], _∷_, _++_, append-assoc}
-use Prim.Native.Nat.{ℕ, _+_, _<_, _≤_}
+use mathlib.Core.Path.{_≡_, sym, ap, ap₂, _∙_}
+use mathlib.Core.List.{[], _∷_, _++_}
+use Prim.Native.Nat.{_+_}
 use native.Mathlib.Omega.{arith}
-use lib.ListN.{length, take}
+use lib.ListN.{length}
 use Rattle.std.proofs.shelf.Lists.{length-take-le}
 use Rattle.words.specs.declared.graph.Graph.{Graph}
 use Rattle.words.specs.declared.graph.Output.{Output}
 use Rattle.words.specs.Programs.{array-word, array-output-word, array-end-word}
 use Rattle.words.proofs.Ranges.{ranges}
-use Rattle.bench.specs.declared.program.ProgramWords.{ProgramWords}
 use Rattle.bench.specs.declared.retiming.Retiming.{Retiming}
 use Rattle.bench.specs.Programs.{put, in-turn, line-at, cells, program-body, program}
 use Rattle.bench.specs.Retimings.{output-delay}

@@ -1,14 +1,14 @@
-use mathlib.Core.Path.{_≡_, refl, sym, ap, ap₂, subst, _∙_}
-use mathlib.Core.List.{List, [], _∷_, _++_}
-use Prim.Native.Nat.{ℕ, _+_, _*_, _<_, _≤_}
+use mathlib.Core.Path.{_≡_, sym, ap, subst, _∙_}
+use mathlib.Core.List.{_++_}
+use Prim.Native.Nat.{ℕ, _+_, _<_}
 use native.Mathlib.Omega.{arith}
-use lib.ListN.{length, getD}
+use lib.ListN.{getD}
 use Rattle.std.proofs.shelf.Lists.{getD-take}
 use Rattle.words.specs.declared.graph.Graph.{Graph}
 use Rattle.words.proofs.Ranges.{ranges}
 use Rattle.bench.specs.declared.order.Order.{Order}
 use Rattle.bench.specs.declared.retiming.Retiming.{Retiming}
-use Rattle.bench.specs.Orders.{Kept, listed, Fires}
+use Rattle.bench.specs.Orders.{listed, Fires}
 use Rattle.bench.specs.Programs.{put, cell, cells}
 use Rattle.bench.specs.Retimings.{order}
 use Rattle.bench.proofs.Emitting.{turn-none, turn-more}

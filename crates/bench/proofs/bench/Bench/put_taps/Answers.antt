@@ -1,15 +1,14 @@
-use mathlib.Core.Path.{_≡_, refl, sym, ap, _∙_}
+use mathlib.Core.Path.{sym, ap, _∙_}
 use mathlib.Core.List.{List, [], _∷_, _++_}
 use Prim.Native.Nat.{ℕ, _+_}
 use native.Mathlib.Omega.{arith}
 use lib.ListN.{length}
-use Rattle.std.specs.declared.option.Option.the-variants.{None, Some}
 use Rattle.std.proofs.shelf.Lists.{append-nil}
 use Rattle.words.specs.declared.graph.Graph.{Graph}
 use Rattle.words.proofs.Ranges.{ranges}
 use Rattle.bench.specs.declared.retiming.Retiming.{Retiming}
 use Rattle.bench.specs.declared.program.ProgramWords.{ProgramWords}
-use Rattle.bench.specs.Programs.{put, tap-if, taps}
+use Rattle.bench.specs.Programs.{put, tap-if}
 use Rattle.bench.specs.Retimings.{current-delay}
 use Rattle.bench.proofs.Emitting.{turn-none, turn-more, delay-few}
 use Rattle.bench.proofs.Soundness.{sound}
@@ -35,14 +34,14 @@ loop-source-again c =
     let more = turn-more f before (put (c .loop-source .program)) j (c .loop-source .inv .2) in
     elim (c .match-delay .came) [
       | in-Some w ↦ (
-          ap (λ (x : ProgramWords). length (x .words)) (w .program-is) ∙ w .push .ensures .table,
-          omega (arith, ap (λ (x : ProgramWords). x .count) (w .program-is), w .push .ensures .count, c .loop-source .inv .1),
-          ap put (w .program-is) ∙ w .push .ensures .put ∙ ap (λ v. put (c .loop-source .program) ++ v ∷ []) (w .tap-word .ensures)
-              ∙ ap (λ o. put (c .loop-source .program) ++ tap-if j o) (w .in-Some .ensures tt) ∙ more,
-        )
+        ap (λ (x : ProgramWords). length (x .words)) (w .program-is) ∙ w .push .ensures .table,
+        omega (arith, ap (λ (x : ProgramWords). x .count) (w .program-is), w .push .ensures .count, c .loop-source .inv .1),
+        ap put (w .program-is) ∙ w .push .ensures .put ∙ ap (λ v. put (c .loop-source .program) ++ v ∷ []) (w .tap-word .ensures)
+            ∙ ap (λ o. put (c .loop-source .program) ++ tap-if j o) (w .in-Some .ensures tt) ∙ more,
+      )
       | in-rest w ↦ (
-          ap (λ (x : ProgramWords). length (x .words)) (w .program-is) ∙ c .loop-source .inv .0,
-          omega (arith, ap (λ (x : ProgramWords). x .count) (w .program-is), c .loop-source .inv .1),
-          ap put (w .program-is) ∙ sym (append-nil (put (c .loop-source .program))) ∙ ap (λ o. put (c .loop-source .program) ++ tap-if j o) (w .in-rest .ensures tt) ∙ more,
-        )
+        ap (λ (x : ProgramWords). length (x .words)) (w .program-is) ∙ c .loop-source .inv .0,
+        omega (arith, ap (λ (x : ProgramWords). x .count) (w .program-is), c .loop-source .inv .1),
+        ap put (w .program-is) ∙ sym (append-nil (put (c .loop-source .program))) ∙ ap (λ o. put (c .loop-source .program) ++ tap-if j o) (w .in-rest .ensures tt) ∙ more,
+      )
     ]
