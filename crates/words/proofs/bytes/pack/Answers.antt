@@ -12,4 +12,4 @@ more bytes ws k w l h e =
     take_more_set ws k w l ∙ ap₂ (λ front v. front ++ v ∷ []) h e ∙ sym (map-range_with_len_more (word_at bytes) 0 k k (omega arith))
 
 pub loop-k-preserved : goal.loop-k-preserved
-loop-k-preserved c = more c.args.bytes.now c.loop-k.words c.loop-k.k c.word-at.result (omega arith) c.loop-k.invariant c.word-at.ensures
+loop-k-preserved c = more c.args.bytes.now c.loop-k.words c.loop-k.k c.word_at.result (omega arith) c.loop-k.invariant c.word_at.ensures

@@ -29,15 +29,15 @@ loop-index-preserved c =
     let ws : List ℕ = c.args.words.now in
     let i : ℕ = c.loop-index.index in
     let l : i < length ws = omega arith in
-    let t = c.in-ok-take.ensures in (
+    let t = c.in_ok-take.ensures in (
       t.0,
       t.1 ∙ ap (λ q. q ++ get_or ws i 0 ∷ []) c.loop-index.invariant.1 ∙ sym (take_more ws i 0 l),
-      walked_on ws i c.of-kind.result l (sym c.of-kind.ensures) (not_end c.of-kind.result c.in-default.not-End) c.loop-index.invariant.2
+      walked_on ws i c.of-kind.result l (sym c.of-kind.ensures) (not_end c.of-kind.result c.in_default.not-End) c.loop-index.invariant.2
           (ap (λ q. asked q (get_or ws i 0) (drop (i + 1) ws)) (sym c.loop-index.invariant.1) ∙ t.2 (drop (i + 1) ws)),
     )
 
 pub returns : goal.returns
 returns c =
-    let l : 0 < length c.args.words.now = c.in-ok-draft.ensures.1 in
+    let l : 0 < length c.args.words.now = c.in_ok-draft.ensures.1 in
     refused_short c.args.words.now c.loop-index.index c.refusal.result (omega arith) c.refusal.ensures c.loop-index.invariant.2
     (subst Begins c.loop-index.invariant.1 (begins c.loop-index.draft c.loop-index.invariant.0))

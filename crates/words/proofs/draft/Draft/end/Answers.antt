@@ -22,10 +22,10 @@ returns-then-not-is-clear c = λ after _.
 pub returns-then-count-index : goal.returns-then-count-index
 returns-then-count-index c = λ after all.
     no_5 c.args.self.now c.requires.sound c.args.word kind.End c.requires.kind c.args.index c.requires.index c.refusal-then-count-index.result
-    c.refusal-then-count-index.ensures c.if-not-self.false (and_from _ _ (sym c.if-not-is-clear.ensures) refl) refl after
+    c.refusal-then-count-index.ensures c.if-not-self.false (and_from _ _ (sym c.if-not-is_clear.ensures) refl) refl after
     (elim c.then-count-index.branch [
       | then-count-index-via-then-count-index w ↦
-          and_left _ _ (ne_eqb _ _ (λ e. w.if-count-index.true (c.field-of-count.ensures ∙ e ∙ ap (λ n. n + 1) (sym c.requires.index))))
+          and_left _ _ (ne_eqb _ _ (λ e. w.if-count-index.true (c.field_of-count.ensures ∙ e ∙ ap (λ n. n + 1) (sym c.requires.index))))
       | then-count-index-via-else-count-index+then-given-index w ↦
           and_right _ _ (ne_eqb (length after) 0 (λ e. w.if-given-index.true (omega (arith, all, e, c.requires.index))))
     ])
@@ -41,9 +41,9 @@ invariant-of-result c =
 pub returns : goal.returns
 returns c = (
   refl,
-  end_encoded c.args.self.now c.requires.sound c.args.word (omega arith) c.requires.kind c.if-not-self.false (eqb-true _ _ (sym c.if-not-is-clear.ensures))
-      (sym c.field-of-count.ensures ∙ c.if-count-index.false ∙ ap (λ n. n + 1) c.requires.index),
+  end_encoded c.args.self.now c.requires.sound c.args.word (omega arith) c.requires.kind c.if-not-self.false (eqb-true _ _ (sym c.if-not-is_clear.ensures))
+      (sym c.field_of-count.ensures ∙ c.if-count-index.false ∙ ap (λ n. n + 1) c.requires.index),
   ap (λ n. n + 1) (sym c.requires.index) ∙ sym c.if-given-index.false,
-  end_asked c.args.self.now c.requires.sound c.args.word (omega arith) c.requires.kind c.if-not-self.false (eqb-true _ _ (sym c.if-not-is-clear.ensures))
-      (sym c.field-of-count.ensures ∙ c.if-count-index.false ∙ ap (λ n. n + 1) c.requires.index),
+  end_asked c.args.self.now c.requires.sound c.args.word (omega arith) c.requires.kind c.if-not-self.false (eqb-true _ _ (sym c.if-not-is_clear.ensures))
+      (sym c.field_of-count.ensures ∙ c.if-count-index.false ∙ ap (λ n. n + 1) c.requires.index),
 )

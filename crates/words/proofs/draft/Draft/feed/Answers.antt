@@ -33,13 +33,13 @@ returns-then-source-self c =
     no_4 c.args.self.now c.requires.sound c.args.word kind.Feed c.requires.kind c.args.index c.requires.index c.refusal-then-source-self.result
     c.refusal-then-source-self.ensures
     (and_from _ _ (lt-ltb 0 c.args.self.now.seen (omega (arith, c.if-self-eq0.false))) (not_from_false _ c.if-self.false))
-    (and_from _ _ (sym c.if-not-is-clear.ensures) (ap (is_source c.args.self.now.graph.count) (sym c.field-of-source.ensures) ∙ sym c.if-not-has-source.ensures))
-    (lt-leb c.args.self.now.least (field 0 6 c.args.word) (omega (arith, c.field-of-source.ensures, c.if-source-self.true)))
+    (and_from _ _ (sym c.if-not-is_clear.ensures) (ap (is_source c.args.self.now.graph.count) (sym c.field_of-source.ensures) ∙ sym c.if-not-has_source.ensures))
+    (lt-leb c.args.self.now.least (field 0 6 c.args.word) (omega (arith, c.field_of-source.ensures, c.if-source-self.true)))
 
 pub returns : goal.returns
 returns c =
-    subst₂ (λ j n. Adds c.args.self.now (feed_read c.args.self.now j n) c.args.word) (sym c.field-of-source.ensures) (sym c.field-of.ensures)
+    subst₂ (λ j n. Adds c.args.self.now (feed_read c.args.self.now j n) c.args.word) (sym c.field_of-source.ensures) (sym c.field_of.ensures)
     (feed_adds c.args.self.now c.requires.sound c.args.word (omega arith) c.requires.kind (omega (arith, c.if-self-eq0.false)) c.if-self.false
-    (eqb-true _ _ (sym c.if-not-is-clear.ensures))
-    (ap (is_source c.args.self.now.graph.count) (sym c.field-of-source.ensures) ∙ sym c.if-not-has-source.ensures)
-    (omega (arith, c.field-of-source.ensures, c.if-source-self.false)))
+    (eqb-true _ _ (sym c.if-not-is_clear.ensures))
+    (ap (is_source c.args.self.now.graph.count) (sym c.field_of-source.ensures) ∙ sym c.if-not-has-source.ensures)
+    (omega (arith, c.field_of-source.ensures, c.if-source-self.false)))

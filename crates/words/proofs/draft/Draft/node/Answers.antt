@@ -28,11 +28,11 @@ returns-then-number-self-2 c =
     no_4 c.args.self.now c.requires.sound c.args.word kind.Node c.requires.kind c.args.index c.requires.index c.refusal-then-number-self-2.result
     c.refusal-then-number-self-2.ensures
     (lt-ltb _ _ c.if-self.false)
-    (and_from _ _ (sym c.if-not-is-clear.ensures) (lt-ltb (field 0 5 c.args.word) c.args.self.now.graph.count (omega (arith, c.field-of-number.ensures))))
-    (ne_eqb _ _ (λ q. c.if-number-self-2.true (c.field-of-number.ensures ∙ q)))
+    (and_from _ _ (sym c.if-not-is_clear.ensures) (lt-ltb (field 0 5 c.args.word) c.args.self.now.graph.count (omega (arith, c.field_of-number.ensures))))
+    (ne_eqb _ _ (λ q. c.if-number-self-2.true (c.field_of-number.ensures ∙ q)))
 
 pub returns : goal.returns
 returns c =
-    subst (λ n. Adds c.args.self.now (node_read c.args.self.now n) c.args.word) (sym c.field-of.ensures)
-    (node_adds c.args.self.now c.requires.sound c.args.word (omega arith) c.requires.kind c.if-self.false (eqb-true _ _ (sym c.if-not-is-clear.ensures))
-    (sym c.field-of-number.ensures ∙ c.if-number-self-2.false))
+    subst (λ n. Adds c.args.self.now (node_read c.args.self.now n) c.args.word) (sym c.field_of.ensures)
+    (node_adds c.args.self.now c.requires.sound c.args.word (omega arith) c.requires.kind c.if-self.false (eqb-true _ _ (sym c.if-not-is_clear.ensures))
+    (sym c.field_of-number.ensures ∙ c.if-number-self-2.false))

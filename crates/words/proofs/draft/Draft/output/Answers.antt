@@ -29,7 +29,7 @@ returns-then-not-is-clear c =
 
 pub returns : goal.returns
 returns c =
-    subst₂ (λ i n. Adds c.args.self.now (output_read c.args.self.now (record { node = i; delay = n })) c.args.word) (sym c.field-of-node.ensures) (sym c.field-of-delay.ensures)
+    subst₂ (λ i n. Adds c.args.self.now (output_read c.args.self.now (record { node = i; delay = n })) c.args.word) (sym c.field_of-node.ensures) (sym c.field_of-delay.ensures)
     (output_adds c.args.self.now c.requires.sound c.args.word (omega arith) c.requires.kind c.if-self.false c.if-self-2.false
-    (eqb-true _ _ (sym c.if-not-is-clear.ensures))
-    (omega (arith, c.field-of-node.ensures, c.if-node-self.false)))
+    (eqb-true _ _ (sym c.if-not-is_clear.ensures))
+    (omega (arith, c.field_of-node.ensures, c.if-node-self.false)))
