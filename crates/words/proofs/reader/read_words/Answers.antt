@@ -14,14 +14,14 @@ returns-in-End c =
     ended_reads c.args.words.now c.loop-index.index c.loop-index.draft (get_or c.args.words.now c.loop-index.index 0) c.end.result c.loop-index.invariant.0
     c.loop-index.invariant.1 (omega arith) c.loop-index.invariant.2 refl (sym c.in-End.ensures) c.end.ensures
 
-pub returns-in-err-take : goal.returns-in-err-take
-returns-in-err-take c =
+pub returns-in_err-take : goal.returns-in_err-take
+returns-in_err-take c =
     let ws : List ℕ = c.args.words.now in
     let i : ℕ = c.loop-index.index in
-    let p = err_from_is_err_and c.from-residual-in-err-take.result c.from-residual-in-err-take.ensures.1 in
-    let no' = c.in-err-take.ensures (drop (i + 1) ws) in
+    let p = err_from_is_err_and c.from_residual-in_err-take.result c.from_residual-in_err-take.ensures.1 in
+    let no' = c.in_err-take.ensures (drop (i + 1) ws) in
     rw (p.1, p.2)
-    (refused_here ws i c.in-err-take.field-0.0 (omega arith) c.loop-index.invariant.2 (subst Begins c.loop-index.invariant.1 (begins c.loop-index.draft c.loop-index.invariant.0))
+    (refused_here ws i c.in_err-take.field-0.0 (omega arith) c.loop-index.invariant.2 (subst Begins c.loop-index.invariant.1 (begins c.loop-index.draft c.loop-index.invariant.0))
     (ap (λ q. asked q (get_or ws i 0) (drop (i + 1) ws)) (sym c.loop-index.invariant.1) ∙ no'))
 
 pub loop-index-preserved : goal.loop-index-preserved

@@ -12,8 +12,8 @@ returns-then-node-self c =
           sym (feed_past_sources c.args.self.now.graph r c.args.node c.args.source w.if-source-ge-SOURCES.true)
     ]
 
-pub offset-bounds-self-node : goal.offset-bounds-self-node
-offset-bounds-self-node c = let r = ranges c.args.self.now.graph c.args.self.now.sound in omega (arith, r.few)
+pub offset_bounds-self-node : goal.offset_bounds-self-node
+offset_bounds-self-node c = let r = ranges c.args.self.now.graph c.args.self.now.sound in omega (arith, r.few)
 
 pub bounds-self-node : goal.bounds-self-node
 bounds-self-node c = let r = ranges c.args.self.now.graph c.args.self.now.sound in omega (arith, r.few)

@@ -14,10 +14,10 @@ pub returns-then-not-self : goal.returns-then-not-self
 returns-then-not-self c = λ after _.
     no_2 c.args.self.now c.requires.sound c.args.word kind.End c.requires.kind c.args.index c.requires.index c.refusal.result c.refusal.ensures c.if-not-self.true after
 
-pub returns-then-not-is-clear : goal.returns-then-not-is-clear
-returns-then-not-is-clear c = λ after _.
-    no_3 c.args.self.now c.requires.sound c.args.word kind.End c.requires.kind c.args.index c.requires.index c.refusal-then-not-is-clear.result
-    c.refusal-then-not-is-clear.ensures c.if-not-self.false (and_left _ _ (sym c.if-not-is-clear.ensures)) after
+pub returns-then-not-is_clear : goal.returns-then-not-is_clear
+returns-then-not-is_clear c = λ after _.
+    no_3 c.args.self.now c.requires.sound c.args.word kind.End c.requires.kind c.args.index c.requires.index c.refusal-then-not-is_clear.result
+    c.refusal-then-not-is_clear.ensures c.if-not-self.false (and_left _ _ (sym c.if-not-is_clear.ensures)) after
 
 pub returns-then-count-index : goal.returns-then-count-index
 returns-then-count-index c = λ after all.
@@ -31,11 +31,11 @@ returns-then-count-index c = λ after all.
     ])
 
 counted : (c : goal.After-result·1) → field 0 11 c.args.word ≡ length (drafted c.args.self.now) + 1
-counted c = sym c.field-of-count.ensures ∙ c.if-count-index.false ∙ ap (λ n. n + 1) c.requires.index
+counted c = sym c.field_of-count.ensures ∙ c.if-count-index.false ∙ ap (λ n. n + 1) c.requires.index
 
-pub invariant-of-result : goal.invariant-of-result
-invariant-of-result c =
-    let e = end_encoded c.args.self.now c.requires.sound c.args.word (omega arith) c.requires.kind c.if-not-self.false (eqb-true _ _ (sym c.if-not-is-clear.ensures)) (counted c) in
+pub invariant_of-result : goal.invariant_of-result
+invariant_of-result c =
+    let e = end_encoded c.args.self.now c.requires.sound c.args.word (omega arith) c.requires.kind c.if-not-self.false (eqb-true _ _ (sym c.if-not-is_clear.ensures)) (counted c) in
     (∣ c.requires.sound.ranges ∣₁, (c.if-given-index.false ∙ ap (λ n. n + 1) c.requires.index ∙ sym (ap length e ∙ length_push (drafted c.args.self.now) c.args.word), tt))
 
 pub returns : goal.returns

@@ -7,7 +7,7 @@ use Rattle.words.specs.Drafts.{feed_read}
 use Rattle.words.proofs.Taking.{no_2, no_3, no_4, stands_of}
 use Rattle.words.proofs.Takes.{feed_adds, Adds}
 use Rattle.words.proofs.draft.Draft.feed.Goals as goal
-use Rattle.words.proofs.draft.Draft.feed.Goals.{then-self-eq0-via-then-self-eq0, then-self-eq0-via-else-self-eq0+then-self, then-not-is-clear-via-then-not-is-clear, then-not-is-clear-via-else-not-is-clear+then-not-has-source}
+use Rattle.words.proofs.draft.Draft.feed.Goals.{then-self-eq0-via-then-self-eq0, then-self-eq0-via-else-self-eq0+then-self, then-not-is_clear-via-then-not-is_clear, then-not-is_clear-via-else-not-is_clear+then-not-has_source}
 
 pub returns-then-self-eq0 : goal.returns-then-self-eq0
 returns-then-self-eq0 c =
@@ -17,15 +17,15 @@ returns-then-self-eq0 c =
       | then-self-eq0-via-else-self-eq0+then-self w ↦ and_right _ _ (not_from_true _ w.if-self.true)
     ])
 
-pub returns-then-not-is-clear : goal.returns-then-not-is-clear
-returns-then-not-is-clear c =
-    no_3 c.args.self.now c.requires.sound c.args.word kind.Feed c.requires.kind c.args.index c.requires.index c.refusal-then-not-is-clear.result
-    c.refusal-then-not-is-clear.ensures
+pub returns-then-not-is_clear : goal.returns-then-not-is_clear
+returns-then-not-is_clear c =
+    no_3 c.args.self.now c.requires.sound c.args.word kind.Feed c.requires.kind c.args.index c.requires.index c.refusal-then-not-is_clear.result
+    c.refusal-then-not-is_clear.ensures
     (and_from _ _ (lt-ltb 0 c.args.self.now.seen (omega (arith, c.if-self-eq0.false))) (not_from_false _ c.if-self.false))
-    (elim c.then-not-is-clear.branch [
-      | then-not-is-clear-via-then-not-is-clear w ↦ and_left _ _ (sym c.is-clear.ensures ∙ w.if-not-is-clear.true)
-      | then-not-is-clear-via-else-not-is-clear+then-not-has-source w ↦
-          and_right _ _ (ap (is_source c.args.self.now.graph.count) (sym c.field-of-source.ensures) ∙ sym w.has-source.ensures ∙ w.if-not-has-source.true)
+    (elim c.then-not-is_clear.branch [
+      | then-not-is_clear-via-then-not-is_clear w ↦ and_left _ _ (sym c.is_clear.ensures ∙ w.if-not-is_clear.true)
+      | then-not-is_clear-via-else-not-is_clear+then-not-has_source w ↦
+          and_right _ _ (ap (is_source c.args.self.now.graph.count) (sym c.field_of-source.ensures) ∙ sym w.has_source.ensures ∙ w.if-not-has_source.true)
     ])
 
 pub returns-then-source-self : goal.returns-then-source-self
@@ -41,5 +41,5 @@ returns c =
     subst₂ (λ j n. Adds c.args.self.now (feed_read c.args.self.now j n) c.args.word) (sym c.field_of-source.ensures) (sym c.field_of.ensures)
     (feed_adds c.args.self.now c.requires.sound c.args.word (omega arith) c.requires.kind (omega (arith, c.if-self-eq0.false)) c.if-self.false
     (eqb-true _ _ (sym c.if-not-is_clear.ensures))
-    (ap (is_source c.args.self.now.graph.count) (sym c.field_of-source.ensures) ∙ sym c.if-not-has-source.ensures)
+    (ap (is_source c.args.self.now.graph.count) (sym c.field_of-source.ensures) ∙ sym c.if-not-has_source.ensures)
     (omega (arith, c.field_of-source.ensures, c.if-source-self.false)))

@@ -6,21 +6,21 @@ use Rattle.words.specs.Drafts.{node_read}
 use Rattle.words.proofs.Taking.{no_2, no_3, no_4}
 use Rattle.words.proofs.Takes.{node_adds, Adds}
 use Rattle.words.proofs.draft.Draft.node.Goals as goal
-use Rattle.words.proofs.draft.Draft.node.Goals.{then-not-is-clear-via-then-not-is-clear, then-not-is-clear-via-else-not-is-clear+then-number-self}
+use Rattle.words.proofs.draft.Draft.node.Goals.{then-not-is_clear-via-then-not-is_clear, then-not-is_clear-via-else-not-is_clear+then-number-self}
 
 pub returns-then-self : goal.returns-then-self
 returns-then-self c =
     no_2 c.args.self.now c.requires.sound c.args.word kind.Node c.requires.kind c.args.index c.requires.index c.refusal.result c.refusal.ensures
     (le-ltb _ _ c.if-self.true)
 
-pub returns-then-not-is-clear : goal.returns-then-not-is-clear
-returns-then-not-is-clear c =
-    no_3 c.args.self.now c.requires.sound c.args.word kind.Node c.requires.kind c.args.index c.requires.index c.refusal-then-not-is-clear.result
-    c.refusal-then-not-is-clear.ensures
+pub returns-then-not-is_clear : goal.returns-then-not-is_clear
+returns-then-not-is_clear c =
+    no_3 c.args.self.now c.requires.sound c.args.word kind.Node c.requires.kind c.args.index c.requires.index c.refusal-then-not-is_clear.result
+    c.refusal-then-not-is_clear.ensures
     (lt-ltb _ _ c.if-self.false)
-    (elim c.then-not-is-clear.branch [
-      | then-not-is-clear-via-then-not-is-clear w ↦ and_left _ _ (sym c.is-clear.ensures ∙ w.if-not-is-clear.true)
-      | then-not-is-clear-via-else-not-is-clear+then-number-self w ↦ and_right _ _ (le-ltb (field 0 5 c.args.word) c.args.self.now.graph.count (omega (arith, c.field-of-number.ensures, w.if-number-self.true)))
+    (elim c.then-not-is_clear.branch [
+      | then-not-is_clear-via-then-not-is_clear w ↦ and_left _ _ (sym c.is_clear.ensures ∙ w.if-not-is_clear.true)
+      | then-not-is_clear-via-else-not-is_clear+then-number-self w ↦ and_right _ _ (le-ltb (field 0 5 c.args.word) c.args.self.now.graph.count (omega (arith, c.field_of-number.ensures, w.if-number-self.true)))
     ])
 
 pub returns-then-number-self-2 : goal.returns-then-number-self-2

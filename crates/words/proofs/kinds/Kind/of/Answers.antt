@@ -23,6 +23,6 @@ pub returns-in-5 : goal.returns-in-5
 unfolding kind_numbered
 returns-in-5 c = ap kind_numbered (sym c.in-5.is ∙ c.field_of.ensures)
 
-pub returns-in-default : goal.returns-in-default
+pub returns-in_default : goal.returns-in_default
 unfolding kind_numbered
-returns-in-default c = let e = c.field-of.ensures in let h = c.in-default in grind (arith, nat_tests)
+returns-in_default c = let e = c.field_of.ensures in let h = c.in_default in grind (arith, nat_tests)
