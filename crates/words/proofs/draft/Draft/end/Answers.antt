@@ -30,13 +30,11 @@ returns-then-count-index c = λ after all.
           and_right _ _ (ne_eqb (length after) 0 (λ e. w.if-given-index.true (omega (arith, all, e, c.requires.index))))
     ])
 
-counted : (c : goal.After-result·1) → field 0 11 c.args.word ≡ length (drafted c.args.self.now) + 1
-counted c = sym c.field_of-count.ensures ∙ c.if-count-index.false ∙ ap (λ n. n + 1) c.requires.index
-
 pub invariant_of-result : goal.invariant_of-result
 invariant_of-result c =
-    let e = end_encoded c.args.self.now c.requires.sound c.args.word (omega arith) c.requires.kind c.if-not-self.false (eqb-true _ _ (sym c.if-not-is_clear.ensures)) (counted c) in
-    (∣ c.requires.sound.ranges ∣₁, (c.if-given-index.false ∙ ap (λ n. n + 1) c.requires.index ∙ sym (ap length e ∙ length_push (drafted c.args.self.now) c.args.word), tt))
+    let counted : field 0 11 c.args.word ≡ length (drafted c.args.self.now) + 1 = sym c.field_of-count.ensures ∙ c.if-count-index.false ∙ ap (λ n. n + 1) c.requires.index in
+    let e = end_encoded c.args.self.now c.requires.sound c.args.word (omega arith) c.requires.kind c.if-not-self.false (eqb-true _ _ (sym c.if-not-is_clear.ensures)) counted in
+    record { sound = ∣ c.requires.sound.ranges ∣₁; counted = c.if-given-index.false ∙ ap (λ n. n + 1) c.requires.index ∙ sym (ap length e ∙ length_push (drafted c.args.self.now) c.args.word) }
 
 pub returns : goal.returns
 returns c = (
