@@ -12,14 +12,14 @@ returns-then-text-needed c =
     let long = listed_length c.args.words.now in
     let yes' = lt-ltb (length c.args.text.now) (length (listed c.args.words.now)) (omega (arith, c.if-text-needed.true)) in
     record {
-      answer = ap Err (c.short-buffer.ensures ∙ ap (too_short (length c.args.text.now)) (sym long)) ∙ sym (cond-true _ _ _ yes');
+      answer = ap Err (c.short_buffer.ensures ∙ ap (too_short (length c.args.text.now)) (sym long)) ∙ sym (cond-true _ _ _ yes');
       buffer = sym (cond-true _ _ _ yes');
     }
 
 pub loop-k-preserved : goal.loop-k-preserved
 loop-k-preserved c =
-    lines_more c.args.text.now c.loop-k.text c.write-line.new.text c.args.words.now c.loop-k.k c.loop-k-test.true c.if-text-needed.false c.loop-k.invariant
-    c.write-line.ensures
+    lines_more c.args.text.now c.loop-k.text c.write_line.new.text c.args.words.now c.loop-k.k c.loop-k-test.true c.if-text-needed.false c.loop-k.invariant
+    c.write_line.ensures
 
 pub returns : goal.returns
 returns c =

@@ -8,7 +8,7 @@ loop-k-init c = overlaid_none c.args.text.now c.args.at
 
 pub loop-k-preserved : goal.loop-k-preserved
 loop-k-preserved c =
-    digit_more c.args.text.now c.loop-k.text c.args.at c.args.word c.loop-k.k c.digit-of.result (omega arith) c.requires c.loop-k.invariant c.digit-of.ensures
+    digit_more c.args.text.now c.loop-k.text c.args.at c.args.word c.loop-k.k c.digit_of.result (omega arith) c.requires c.loop-k.invariant c.digit_of.ensures
 
 pub returns : goal.returns
 returns c = line_end c.args.text.now c.loop-k.text c.args.at c.args.word c.loop-k.k (omega arith) (omega arith) c.requires c.loop-k.invariant

@@ -22,7 +22,7 @@ loop-node-init c = (refl, first_start _)
 
 pub retime-requires : goal.retime-requires
 retime-requires c =
-    let back = to_z-of_z w32 c.shift-at.result (record { sfits = c.shift-at.type-inv }) ∙ c.shift-at.ensures in
+    let back = to_z-of_z w32 c.shift_at.result (record { sfits = c.shift_at.type_inv }) ∙ c.shift_at.ensures in
     let same = record_at c.args.records.now c.loop-node.records c.args.factor c.args.shifts.now c.loop-node.node (omega arith) c.loop-node.invariant.0 in
     record {
       lag = subst (λ (r : NodeRecord). r.lag ≤ 4095) (sym same) (c.requires.lags c.loop-node.node);
@@ -37,8 +37,8 @@ returns-then-not-retime c =
     let k : ℕ = c.loop-node.node in
     let l : k < length old = omega arith in
     let made =
-    lag_made old c.loop-node.records c.args.factor c.args.shifts.now k c.shift-at.result
-    (record_at old c.loop-node.records c.args.factor c.args.shifts.now k l c.loop-node.invariant.0) (to_z-of_z w32 c.shift-at.result (record { sfits = c.shift-at.type-inv })) c.shift-at.ensures in
+    lag_made old c.loop-node.records c.args.factor c.args.shifts.now k c.shift_at.result
+    (record_at old c.loop-node.records c.args.factor c.args.shifts.now k l c.loop-node.invariant.0) (to_z-of_z w32 c.shift_at.result (record { sfits = c.shift_at.type_inv })) c.shift_at.ensures in
     record {
       answer = sym (first_found (at old c.args.factor c.args.shifts.now) (length old) k k l c.loop-node.invariant.1 (cond-false _ _ _ (sym (ap is_lag made) ∙ sym c.if-not-retime.ensures.answer)));
       state = λ h. absurd (true≢false (ap is_some h));
@@ -51,8 +51,8 @@ loop-node-preserved c =
     let k : ℕ = c.loop-node.node in
     let l : k < length old = omega arith in
     let made =
-    lag_made old c.loop-node.records c.args.factor c.args.shifts.now k c.shift-at.result
-    (record_at old c.loop-node.records c.args.factor c.args.shifts.now k l c.loop-node.invariant.0) (to_z-of_z w32 c.shift-at.result (record { sfits = c.shift-at.type-inv })) c.shift-at.ensures in (
+    lag_made old c.loop-node.records c.args.factor c.args.shifts.now k c.shift_at.result
+    (record_at old c.loop-node.records c.args.factor c.args.shifts.now k l c.loop-node.invariant.0) (to_z-of_z w32 c.shift_at.result (record { sfits = c.shift_at.type_inv })) c.shift_at.ensures in (
       record_more old c.loop-node.records c.args.factor c.args.shifts.now k l c.loop-node.invariant.0 c.retime.new.self
           (c.retime.ensures.state ∙ cond-true _ _ _ c.if-not-retime.false ∙ ap (λ z. record { lag = natural z }) made),
       first_more (at old c.args.factor c.args.shifts.now) k c.loop-node.invariant.1 (cond-true _ _ _ (sym (ap is_lag made) ∙ sym c.if-not-retime.ensures.answer)),

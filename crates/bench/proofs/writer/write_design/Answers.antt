@@ -12,10 +12,10 @@ use Rattle.words.proofs.Encodings.{nodes_in_range}
 use Rattle.bench.specs.Buffers.{overlaid}
 use Rattle.bench.proofs.Writing.{size_is, size_few, all_written}
 use Rattle.bench.proofs.writer.write_design.Goals as goal
-use Rattle.bench.proofs.writer.write_design.Goals.{After-output-word}
+use Rattle.bench.proofs.writer.write_design.Goals.{After-output_word}
 
-pub head-word-requires : goal.head-word-requires
-head-word-requires c = omega (arith, (ranges c.args.design.now.graph c.args.design.now.sound).few, c.count.ensures)
+pub head_word-requires : goal.head_word-requires
+head_word-requires c = omega (arith, (ranges c.args.design.now.graph c.args.design.now.sound).few, c.count.ensures)
 
 pub bounds-words-0 : goal.bounds-words-0
 bounds-words-0 c =
@@ -23,8 +23,8 @@ bounds-words-0 c =
     let l : 0 < length c.args.words.now = omega (arith, size_is g (ranges g c.args.design.now.sound), c.size-needed.ensures, c.if-words-needed.false) in
     search rules
 
-pub write-nodes-at-requires : goal.write-nodes-at-requires
-write-nodes-at-requires c =
+pub write_nodes-at-requires : goal.write_nodes-at-requires
+write_nodes-at-requires c =
     let g : Graph = c.args.design.now.graph in
     let r : InRange g = ranges g c.args.design.now.sound in
     let e = c.nodes.ensures in
@@ -37,45 +37,45 @@ write-nodes-at-requires c =
           omega (arith, size_is g r, c.size-needed.ensures, c.if-words-needed.false, length-set c.args.words.now 0 c.head_word.result, ap (λ l. length (node_words 0 l)) e);
     }
 
-pub output-word-requires : goal.output-word-requires
-output-word-requires c =
+pub output_word-requires : goal.output_word-requires
+output_word-requires c =
     let r = ranges c.args.design.now.graph c.args.design.now.sound in
     let e = ap (λ o. o.node) c.output.ensures in
     omega (arith, r.few, r.output_node)
 
 -- where the output goes
-placed : (c : After-output-word) → (c.write-nodes-at.result ≡ 1 + length (node_words 0 (take c.args.design.now.graph.count c.args.design.now.graph.nodes)))
-    × (c.write-nodes-at.result + 2 ≡ length (encoded c.args.design.now.graph)) × (length (encoded c.args.design.now.graph) ≤ 1091)
-    × (length (encoded c.args.design.now.graph) ≤ length c.args.words.now) × (length c.write-nodes-at.new.words ≡ length c.args.words.now)
+placed : (c : After-output_word) → (c.write_nodes-at.result ≡ 1 + length (node_words 0 (take c.args.design.now.graph.count c.args.design.now.graph.nodes)))
+    × (c.write_nodes-at.result + 2 ≡ length (encoded c.args.design.now.graph)) × (length (encoded c.args.design.now.graph) ≤ 1091)
+    × (length (encoded c.args.design.now.graph) ≤ length c.args.words.now) × (length c.write_nodes-at.new.words ≡ length c.args.words.now)
 placed c =
     let g : Graph = c.args.design.now.graph in
     let r : InRange g = ranges g c.args.design.now.sound in
-    let at : c.write-nodes-at.result ≡ 1 + length (node_words 0 (take g.count g.nodes)) = c.write-nodes-at.ensures.next ∙ ap (λ l. 1 + length (node_words 0 l)) c.nodes.ensures in (
+    let at : c.write_nodes-at.result ≡ 1 + length (node_words 0 (take g.count g.nodes)) = c.write_nodes-at.ensures.next ∙ ap (λ l. 1 + length (node_words 0 l)) c.nodes.ensures in (
       at,
       omega (arith, size_is g r),
       size_few g r,
       omega (arith, c.size-needed.ensures, c.if-words-needed.false),
-      c.write-nodes-at.auto.words ∙ length-set c.args.words.now 0 c.head_word.result,
+      c.write_nodes-at.auto.words ∙ length-set c.args.words.now 0 c.head_word.result,
     )
 
-pub offset-bounds-words-at : goal.offset-bounds-words-at
-offset-bounds-words-at c = omega (arith, placed c)
+pub offset_bounds-words-at : goal.offset_bounds-words-at
+offset_bounds-words-at c = omega (arith, placed c)
 
 pub bounds-words-at : goal.bounds-words-at
 bounds-words-at c = omega (arith, placed c)
 
-pub end-word-requires : goal.end-word-requires
-end-word-requires c =
+pub end_word-requires : goal.end_word-requires
+end_word-requires c =
     let g : Graph = c.args.design.now.graph in omega (arith, size_few g (ranges g c.args.design.now.sound), c.size-needed.ensures)
 
-pub overflow-add-words : goal.overflow-add-words
-overflow-add-words c = omega (arith, placed (goal.at.overflow-add-words c).After-output-word)
+pub overflow_add-words : goal.overflow_add-words
+overflow_add-words c = omega (arith, placed (goal.at.overflow_add-words c).After-output_word)
 
-pub offset-bounds-words-at-2 : goal.offset-bounds-words-at-2
-offset-bounds-words-at-2 c = omega (arith, placed (goal.at.offset-bounds-words-at-2 c).After-output-word)
+pub offset_bounds-words-at-2 : goal.offset_bounds-words-at-2
+offset_bounds-words-at-2 c = omega (arith, placed (goal.at.offset_bounds-words-at-2 c).After-output_word)
 
 pub bounds-words-at-2 : goal.bounds-words-at-2
-bounds-words-at-2 c = omega (arith, placed (goal.at.bounds-words-at-2 c).After-output-word, length-set c.write-nodes-at.new.words c.write-nodes-at.result c.output_word.result)
+bounds-words-at-2 c = omega (arith, placed (goal.at.bounds-words-at-2 c).After-output_word, length-set c.write_nodes-at.new.words c.write_nodes-at.result c.output_word.result)
 
 -- what stands in the buffer, from what each call wrote
 written : (g : Graph) (b after : List ℕ) (ns : List Node) (at h o e n : ℕ) → InRange g → length (encoded g) ≤ length b → n ≡ length (encoded g) → ns ≡ take g.count g.nodes → h ≡ head_word g.count →
@@ -97,8 +97,8 @@ returns c =
     record {
       answer = ap Ok c.size-needed.ensures ∙ sym (cond-false _ _ _ no');
       buffer =
-          written g c.args.words.now c.write-nodes-at.new.words c.nodes.result.now c.write-nodes-at.result c.head_word.result c.output_word.result c.end_word.result c.size-needed.result
+          written g c.args.words.now c.write_nodes-at.new.words c.nodes.result.now c.write_nodes-at.result c.head_word.result c.output_word.result c.end_word.result c.size-needed.result
           (ranges g c.args.design.now.sound) fits c.size-needed.ensures c.nodes.ensures (c.head_word.ensures ∙ ap head_word c.count.ensures)
-          (c.output_word.ensures ∙ ap output_word c.output.ensures) c.end_word.ensures c.write-nodes-at.ensures.next c.write-nodes-at.ensures.words
+          (c.output_word.ensures ∙ ap output_word c.output.ensures) c.end_word.ensures c.write_nodes-at.ensures.next c.write_nodes-at.ensures.words
           ∙ sym (cond-false _ _ _ no');
     }

@@ -5,14 +5,14 @@ use Rattle.bench.specs.Buffers.{overlaid}
 use Rattle.bench.proofs.Overlays.{overlaid_none, overlaid_one, overlaid_more, overlaid_join}
 use Rattle.bench.proofs.Writing.{row_some, row_none, row_room}
 use Rattle.bench.proofs.writer.write_node.Goals as goal
-use Rattle.bench.proofs.writer.write_node.Goals.{in-Some, in-default}
+use Rattle.bench.proofs.writer.write_node.Goals.{in-Some, in_default}
 
 pub loop-source-init : goal.loop-source-init
 unfolding feed_words
 loop-source-init c = (sym (add-zero _), overlaid_none (set c.args.words.now c.args.at c.node_word.result) (c.args.at + 1))
 
-pub offset-bounds-words-next : goal.offset-bounds-words-next
-offset-bounds-words-next c =
+pub offset_bounds-words-next : goal.offset_bounds-words-next
+offset_bounds-words-next c =
     let h = row_room c.args.node.now.feeds c.loop-source.source c.in-Some.delay c.args.at c.loop-source.next (length c.args.words.now) (omega arith) c.in-Some.is c.loop-source.invariant.0 c.requires.room in
     search rules
 
@@ -21,8 +21,8 @@ bounds-words-next c =
     let h = row_room c.args.node.now.feeds c.loop-source.source c.in-Some.delay c.args.at c.loop-source.next (length c.args.words.now) (omega arith) c.in-Some.is c.loop-source.invariant.0 c.requires.room in
     omega (arith, length-set c.args.words.now c.args.at c.node_word.result, c.loop-source.auto.words)
 
-pub overflow-add-next-in-Some : goal.overflow-add-next-in-Some
-overflow-add-next-in-Some c =
+pub overflow_add-next-in-Some : goal.overflow_add-next-in-Some
+overflow_add-next-in-Some c =
     let h = row_room c.args.node.now.feeds c.loop-source.source c.in-Some.delay c.args.at c.loop-source.next (length c.args.words.now) (omega arith) c.in-Some.is c.loop-source.invariant.0 c.requires.room in
     search rules
 
@@ -44,8 +44,8 @@ loop-source-preserved c =
             w.words-is ∙ ap₂ (λ ws v. set ws c.loop-source.next v) c.loop-source.invariant.1 w.feed_word.ensures ∙ ap (λ n. set (overlaid b at so_far) n (feed_word s d)) c.loop-source.invariant.0
                 ∙ overlaid_more b at so_far (feed_word s d) (omega (arith, c.loop-source.invariant.0, length-set c.args.words.now c.args.at c.node_word.result)) ∙ ap (overlaid b at) (sym more),
           )
-      | in-default w ↦
-          let same : feed_words 0 (take (s + 1) fs) ≡ so_far = row_none fs s l w.in-default.is in
+      | in_default w ↦
+          let same : feed_words 0 (take (s + 1) fs) ≡ so_far = row_none fs s l w.in_default.is in
           (w.next-is ∙ c.loop-source.invariant.0 ∙ ap (λ ws. at + length ws) (sym same), w.words-is ∙ c.loop-source.invariant.1 ∙ ap (overlaid b at) (sym same))
     ]
 

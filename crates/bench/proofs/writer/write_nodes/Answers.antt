@@ -13,8 +13,8 @@ pub loop-number-init : goal.loop-number-init
 unfolding node_words
 loop-number-init c = (sym (add-zero _), overlaid_none c.args.words.now c.args.at)
 
-pub write-node-next-requires : goal.write-node-next-requires
-write-node-next-requires c =
+pub write_node-next-requires : goal.write_node-next-requires
+write_node-next-requires c =
     let l : c.loop-number.number < length c.args.nodes.now = c.loop-number-test.true in
     record {
       number = omega (arith, c.requires.few);
@@ -36,8 +36,8 @@ loop-number-preserved c =
     let more : node_words 0 (take (k + 1) ns) ≡ so_far ++ new = nodes_more ns k l in
     let room = nodes_room ns k at c.loop-number.next (length b) l c.loop-number.invariant.0 c.requires.room in
     let joined = length-append so_far new in (
-      c.write-node-next.ensures.next ∙ omega (arith, c.loop-number.invariant.0, ap length more),
-      c.write-node-next.ensures.words ∙ ap₂ (λ x n. overlaid x n new) c.loop-number.invariant.1 c.loop-number.invariant.0
+      c.write_node-next.ensures.next ∙ omega (arith, c.loop-number.invariant.0, ap length more),
+      c.write_node-next.ensures.words ∙ ap₂ (λ x n. overlaid x n new) c.loop-number.invariant.1 c.loop-number.invariant.0
           ∙ overlaid_join b at so_far new (omega (arith, c.loop-number.invariant.0)) ∙ ap (overlaid b at) (sym more),
     )
 

@@ -19,4 +19,4 @@ pub loop-node-preserved : goal.loop-node-preserved
 loop-node-preserved c =
     let g : Graph = c.args.self.now.design.graph in
     let p : Retiming = c.args.self.now.retiming in
-    first_more (λ i. first (c1_at g p i) g.count) c.loop-node.node c.loop-node.invariant (sym c.in-default.ensures)
+    first_more (λ i. first (c1_at g p i) g.count) c.loop-node.node c.loop-node.invariant (sym c.in_default.ensures)

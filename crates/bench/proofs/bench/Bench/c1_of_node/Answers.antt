@@ -10,14 +10,14 @@ use Rattle.bench.proofs.bench.Bench.c1_of_node.Goals as goal
 pub loop-source-init : goal.loop-source-init
 loop-source-init c = first_start _
 
-pub returns-then-hears-at : goal.returns-then-hears-at
-returns-then-hears-at c =
+pub returns-then-hears_at : goal.returns-then-hears_at
+returns-then-hears_at c =
     let g : Graph = c.args.self.now.design.graph in
     let p : Retiming = c.args.self.now.retiming in
-    sym (first_found (c1_at g p c.args.node) g.count c.loop-source.source (C1 c.args.node c.loop-source.source) (omega (arith, c.loop-source-test.true, c.count-source-end.ensures)) c.loop-source.invariant (cond-true _ _ _ (sym c.if-hears-at.ensures)))
+    sym (first_found (c1_at g p c.args.node) g.count c.loop-source.source (C1 c.args.node c.loop-source.source) (omega (arith, c.loop-source-test.true, c.count-source-end.ensures)) c.loop-source.invariant (cond-true _ _ _ (sym c.if-hears_at.ensures)))
 
 pub loop-source-preserved : goal.loop-source-preserved
 loop-source-preserved c =
     let g : Graph = c.args.self.now.design.graph in
     let p : Retiming = c.args.self.now.retiming in
-    first_more (c1_at g p c.args.node) c.loop-source.source c.loop-source.invariant (cond-false _ _ _ (sym c.if-hears-at.ensures))
+    first_more (c1_at g p c.args.node) c.loop-source.source c.loop-source.invariant (cond-false _ _ _ (sym c.if-hears_at.ensures))

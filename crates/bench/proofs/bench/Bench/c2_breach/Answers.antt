@@ -19,4 +19,4 @@ pub loop-source-preserved : goal.loop-source-preserved
 loop-source-preserved c =
     let g : Graph = c.args.self.now.design.graph in
     let p : Retiming = c.args.self.now.retiming in
-    first_more (λ j. first (λ i. first (c2_at g p j i) g.count) g.count) c.loop-source.source c.loop-source.invariant (sym c.in-default.ensures)
+    first_more (λ j. first (λ i. first (c2_at g p j i) g.count) g.count) c.loop-source.source c.loop-source.invariant (sym c.in_default.ensures)

@@ -19,4 +19,4 @@ pub loop-smaller-preserved : goal.loop-smaller-preserved
 loop-smaller-preserved c =
     let g : Graph = c.args.self.now.design.graph in
     let p : Retiming = c.args.self.now.retiming in
-    first_more (λ i. first (c2_at g p c.args.source i) g.count) c.loop-smaller.smaller c.loop-smaller.invariant (sym c.in-default.ensures)
+    first_more (λ i. first (c2_at g p c.args.source i) g.count) c.loop-smaller.smaller c.loop-smaller.invariant (sym c.in_default.ensures)

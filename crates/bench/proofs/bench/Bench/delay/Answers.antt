@@ -14,23 +14,23 @@ fits c =
     feed_fits c.args.self.now.design.graph c.args.self.now.retiming (ranges c.args.self.now.design.graph c.args.self.now.design.sound)
     (sound c.args.self.now.design.graph c.args.self.now.retiming c.args.self.now.sound) c.args.node c.args.source c.in-Some.delay (sym c.feed-feed.ensures ∙ c.in-Some.is)
 
-pub overflow-mul-ahead : goal.overflow-mul-ahead
-overflow-mul-ahead c = omega (arith, fits c)
+pub overflow_mul-ahead : goal.overflow_mul-ahead
+overflow_mul-ahead c = omega (arith, fits c)
 
-pub offset-bounds-self-node : goal.offset-bounds-self-node
-offset-bounds-self-node c = omega (arith, fits c)
+pub offset_bounds-self-node : goal.offset_bounds-self-node
+offset_bounds-self-node c = omega (arith, fits c)
 
 pub bounds-self-node : goal.bounds-self-node
 bounds-self-node c = omega (arith, fits (goal.at.bounds-self-node c).In-Some)
 
-pub overflow-add-ahead : goal.overflow-add-ahead
-overflow-add-ahead c = omega (arith, fits (goal.at.overflow-add-ahead c).In-Some)
+pub overflow_add-ahead : goal.overflow_add-ahead
+overflow_add-ahead c = omega (arith, fits (goal.at.overflow_add-ahead c).In-Some)
 
-pub source-lag-requires : goal.source-lag-requires
-source-lag-requires c = (fits (goal.at.source-lag-requires c).In-Some).1
+pub source_lag-requires : goal.source_lag-requires
+source_lag-requires c = (fits (goal.at.source_lag-requires c).In-Some).1
 
-pub overflow-sub-result : goal.overflow-sub-result
-overflow-sub-result c = omega (arith, fits (goal.at.overflow-sub-result c).In-Some, c.source_lag.ensures)
+pub overflow_sub-result : goal.overflow_sub-result
+overflow_sub-result c = omega (arith, fits (goal.at.overflow_sub-result c).In-Some, c.source_lag.ensures)
 
-pub overflow-cast-result : goal.overflow-cast-result
-overflow-cast-result c = omega (arith, fits (goal.at.overflow-cast-result c).In-Some, c.source_lag.ensures)
+pub overflow_cast-result : goal.overflow_cast-result
+overflow_cast-result c = omega (arith, fits (goal.at.overflow_cast-result c).In-Some, c.source_lag.ensures)

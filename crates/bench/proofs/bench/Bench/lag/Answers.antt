@@ -27,9 +27,9 @@ returns-in-Some c =
     ∙ some_or (shifts_fault shifts) _ _ (shifts_some shifts c.in-Some.index (sym c.in-Some.ensures)) in
     record { answer = ap Err c.refusal-in-Some.ensures ∙ sym (ap (λ o. unless o tt) h); design = refl; retiming = kept _ _ _ c.args.self.now.retiming h }
 
-pub make-move-requires : goal.make-move-requires
-make-move-requires c =
-    let fit = shifts_fit c.args.shifts.now (shifts_none c.args.shifts.now (sym c.in-default.ensures)) in
+pub make_move-requires : goal.make_move-requires
+make_move-requires c =
+    let fit = shifts_fit c.args.shifts.now (shifts_none c.args.shifts.now (sym c.in_default.ensures)) in
     record { factor = (omega arith, omega arith); few = omega (arith, c.if-shifts-count.false, c.count-count.ensures); shifts = (λ i. (fit i).0, λ i. (fit i).1) }
 
 pub returns : goal.returns
@@ -37,9 +37,9 @@ returns c =
     let g : Graph = c.args.self.now.design.graph in
     let p : Retiming = c.args.self.now.retiming in
     let shifts : List ℤ = c.args.shifts.now in
-    let h = lag_made g p shifts (c.if-shifts-count.false ∙ c.count-count.ensures) (shifts_none shifts (sym c.in-default.ensures)) (sound g p c.args.self.now.sound).slow in
+    let h = lag_made g p shifts (c.if-shifts-count.false ∙ c.count-count.ensures) (shifts_none shifts (sym c.in_default.ensures)) (sound g p c.args.self.now.sound).slow in
     record {
-      answer = c.make-move.ensures.answer ∙ ap (λ o. unless o tt) (sym h);
-      design = c.make-move.ensures.design;
-      retiming = c.make-move.ensures.retiming ∙ ap (λ o. unless_kept o (moved p 1 shifts) p) (sym h);
+      answer = c.make_move.ensures.answer ∙ ap (λ o. unless o tt) (sym h);
+      design = c.make_move.ensures.design;
+      retiming = c.make_move.ensures.retiming ∙ ap (λ o. unless_kept o (moved p 1 shifts) p) (sym h);
     }

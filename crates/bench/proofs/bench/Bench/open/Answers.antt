@@ -55,32 +55,32 @@ module _ (g : Graph) (p : Retiming) (at : p ≡ at_rest) where
 pub firing-order-requires : goal.firing-order-requires
 firing-order-requires c =
     let g : Graph = c.args.design.now.graph in
-    record { sound = rest_sound g c.at-rest-retiming.result c.at-rest-retiming.ensures (ranges g c.args.design.now.sound) }
+    record { sound = rest_sound g c.at_rest-retiming.result c.at_rest-retiming.ensures (ranges g c.args.design.now.sound) }
 
-pub invariant-of-result : goal.invariant-of-result
-invariant-of-result c =
+pub invariant_of-result : goal.invariant_of-result
+invariant_of-result c =
     let g : Graph = c.args.design.now.graph in
-    let p : Retiming = c.at-rest-retiming.result in
-    (∣ rest_sound g p c.at-rest-retiming.ensures (ranges g c.args.design.now.sound) ∣₁, (whole g p c.at-rest-retiming.ensures (listed c.firing-order.result) c.firing-order.ensures.listed c.in-default.ensures, tt))
+    let p : Retiming = c.at_rest-retiming.result in
+    (∣ rest_sound g p c.at_rest-retiming.ensures (ranges g c.args.design.now.sound) ∣₁, (whole g p c.at_rest-retiming.ensures (listed c.firing-order.result) c.firing-order.ensures.listed c.in_default.ensures, tt))
 
-pub returns-in-default : goal.returns-in-default
-returns-in-default c =
+pub returns-in_default : goal.returns-in_default
+returns-in_default c =
     let g : Graph = c.args.design.now.graph in
-    let p : Retiming = c.at-rest-retiming.result in
-    let all = whole g p c.at-rest-retiming.ensures (listed c.firing-order.result) c.firing-order.ensures.listed c.in-default.ensures in
+    let p : Retiming = c.at_rest-retiming.result in
+    let all = whole g p c.at_rest-retiming.ensures (listed c.firing-order.result) c.firing-order.ensures.listed c.in_default.ensures in
     record {
       short = λ l. absurd (omega (arith, c.if-cycle-count.false, c.count.ensures));
-      opens = λ l. (well_defined g all, refl, c.at-rest-retiming.ensures, refl);
+      opens = λ l. (well_defined g all, refl, c.at_rest-retiming.ensures, refl);
     }
 
 pub walk-node-requires : goal.walk-node-requires
 walk-node-requires c =
     let g : Graph = c.args.design.now.graph in
-    let p : Retiming = c.at-rest-retiming.result in
-    let s = stuck g p c.at-rest-retiming.ensures (listed c.firing-order.result) c.firing-order.ensures.listed c.in-Some.start c.in-Some.ensures in
+    let p : Retiming = c.at_rest-retiming.result in
+    let s = stuck g p c.at_rest-retiming.ensures (listed c.firing-order.result) c.firing-order.ensures.listed c.in-Some.start c.in-Some.ensures in
     record {
       kept = c.firing-order.ensures.kept;
-      sound = rest_sound g p c.at-rest-retiming.ensures (ranges g c.args.design.now.sound);
+      sound = rest_sound g p c.at_rest-retiming.ensures (ranges g c.args.design.now.sound);
       stuck = s.2;
       start = s.0;
       unlisted = s.1;
@@ -89,18 +89,18 @@ walk-node-requires c =
 pub bounds-path-node : goal.bounds-path-node
 bounds-path-node c =
     let g : Graph = c.args.design.now.graph in
-    node_below g c.at-rest-retiming.result c.at-rest-retiming.ensures c.walk-node.result.0 c.walk-node.ensures.kept c.walk-node.result.1 c.walk-node.ensures.closed
+    node_below g c.at_rest-retiming.result c.at_rest-retiming.ensures c.walk-node.result.0 c.walk-node.ensures.kept c.walk-node.result.1 c.walk-node.ensures.closed
     (ranges g c.args.design.now.sound).few
 
-pub copy-from-requires : goal.copy-from-requires
-copy-from-requires c =
+pub copy_from-requires : goal.copy_from-requires
+copy_from-requires c =
     let g : Graph = c.args.design.now.graph in
     let o : Order = c.walk-node.result.0 in
     let kept = c.walk-node.ensures.kept in
     let closed = c.walk-node.ensures.closed in
     let few = (ranges g c.args.design.now.sound).few in
-    let at = rank_at g c.at-rest-retiming.result c.at-rest-retiming.ensures o kept c.walk-node.result.1 closed few c.unwrap-or-rank.result c.unwrap-or-rank.ensures in
-    let long = count_of g c.at-rest-retiming.result c.at-rest-retiming.ensures o kept c.walk-node.result.1 closed few in
+    let at = rank_at g c.at_rest-retiming.result c.at_rest-retiming.ensures o kept c.walk-node.result.1 closed few c.unwrap_or-rank.result c.unwrap_or-rank.ensures in
+    let long = count_of g c.at_rest-retiming.result c.at_rest-retiming.ensures o kept c.walk-node.result.1 closed few in
     record {
       kept = kept;
       rank = omega (arith, place_below (listed o) c.walk-node.result.1 closed.closes);
@@ -115,15 +115,15 @@ returns c =
     let node : ℕ = c.walk-node.result.1 in
     let kept = c.walk-node.ensures.kept in
     let few = (ranges g c.args.design.now.sound).few in
-    let closed = at_rest_closed g c.at-rest-retiming.result c.at-rest-retiming.ensures o kept node c.walk-node.ensures.closed few in
-    let at = rank_at g c.at-rest-retiming.result c.at-rest-retiming.ensures o kept node c.walk-node.ensures.closed few c.unwrap-or-rank.result c.unwrap-or-rank.ensures in
+    let closed = at_rest_closed g c.at_rest-retiming.result c.at_rest-retiming.ensures o kept node c.walk-node.ensures.closed few in
+    let at = rank_at g c.at_rest-retiming.result c.at_rest-retiming.ensures o kept node c.walk-node.ensures.closed few c.unwrap_or-rank.result c.unwrap_or-rank.ensures in
     record {
       short = λ l. absurd (omega (arith, c.if-cycle-count.false, c.count.ensures));
       opens = λ l. (
         round g (listed o) node closed,
         round_cycle g (listed o) node closed,
         round_zero g (listed o) node closed,
-        c.refusal-2.ensures ∙ ap zero_cycle (c.copy-from.ensures.count ∙ ap (λ n. length (drop n (listed o))) at),
-        c.copy-from.ensures.buffer ∙ ap (λ n. overlaid c.args.cycle.now 0 (drop n (listed o))) at,
+        c.refusal-2.ensures ∙ ap zero_cycle (c.copy_from.ensures.count ∙ ap (λ n. length (drop n (listed o))) at),
+        c.copy_from.ensures.buffer ∙ ap (λ n. overlaid c.args.cycle.now 0 (drop n (listed o))) at,
       );
     }

@@ -10,19 +10,19 @@ use Rattle.bench.specs.Retimings.{output_delay}
 use Rattle.bench.proofs.Soundness.{sound}
 use Rattle.bench.proofs.bench.Bench.program_words.Goals as goal
 
-pub array-word-requires : goal.array-word-requires
-array-word-requires c =
+pub array_word-requires : goal.array_word-requires
+array_word-requires c =
     let g : Graph = c.args.self.now.design.graph in
     let p : Retiming = c.args.self.now.retiming in
     (omega (arith, (ranges g c.args.self.now.design.sound).few, c.count.ensures), (sound g p c.args.self.now.sound).slow)
 
-pub put-cells-requires : goal.put-cells-requires
-put-cells-requires c =
+pub put_cells-requires : goal.put_cells-requires
+put_cells-requires c =
     let g : Graph = c.args.self.now.design.graph in
-    record { table = c.put-lines.ensures.table; room = omega (arith, c.put-lines.ensures.count, (ranges g c.args.self.now.design.sound).few) }
+    record { table = c.put_lines.ensures.table; room = omega (arith, c.put_lines.ensures.count, (ranges g c.args.self.now.design.sound).few) }
 
-pub array-output-word-requires : goal.array-output-word-requires
-array-output-word-requires c =
+pub array_output_word-requires : goal.array_output_word-requires
+array_output_word-requires c =
     let g : Graph = c.args.self.now.design.graph in
     let p : Retiming = c.args.self.now.retiming in
     let r = ranges g c.args.self.now.design.sound in
@@ -37,17 +37,17 @@ returns c =
     let few = (ranges g c.args.self.now.design.sound).few in
     let head : put c.push.new.self ≡ array_word g.count p.factor ∷ [] =
     c.push.ensures.put ∙ ap₂ (λ l v. l ++ v ∷ []) c.empty-program.ensures.put (c.array_word.ensures ∙ ap (λ n. array_word n p.factor) c.count.ensures) in
-    let lines : put c.put-lines.new.program ≡ array_word g.count p.factor ∷ in_turn (line_at g p) (g.count + 1) =
-    c.put-lines.ensures.put ∙ ap (λ l. l ++ in_turn (line_at g p) (g.count + 1)) head in
-    let upto = c.put-cells.ensures.put ∙ ap (λ l. l ++ cells g p g.count) lines in
+    let lines : put c.put_lines.new.program ≡ array_word g.count p.factor ∷ in_turn (line_at g p) (g.count + 1) =
+    c.put_lines.ensures.put ∙ ap (λ l. l ++ in_turn (line_at g p) (g.count + 1)) head in
+    let upto = c.put_cells.ensures.put ∙ ap (λ l. l ++ cells g p g.count) lines in
     let word : c.array_output_word.result ≡ array_output_word g.output.node (output_delay g p) =
     c.array_output_word.ensures ∙ ap₂ array_output_word (ap (λ (o : Output). o.node) c.output-output.ensures) c.output_delay.ensures in
     let body : put c.push-2.new.self ≡ program_body g p = c.push-2.ensures.put ∙ ap₂ (λ l v. l ++ v ∷ []) upto word in
     let long : length (put c.push-2.new.self) ≡ c.push-2.new.self.count =
-    length-take-le c.push-2.new.self.count c.push-2.new.self.words (omega (arith, c.push-2.ensures.table, c.push-2.ensures.count, c.put-cells.ensures.count)) in
+    length-take-le c.push-2.new.self.count c.push-2.new.self.words (omega (arith, c.push-2.ensures.table, c.push-2.ensures.count, c.put_cells.ensures.count)) in
     let count : c.push-2.new.self.count ≡ length (program_body g p) = sym long ∙ ap length body in
     record {
       table = c.push-3.ensures.table;
-      count = omega (arith, c.push-3.ensures.count, c.push-2.ensures.count, c.put-cells.ensures.count);
+      count = omega (arith, c.push-3.ensures.count, c.push-2.ensures.count, c.put_cells.ensures.count);
       put = c.push-3.ensures.put ∙ ap₂ (λ l v. l ++ v ∷ []) body (c.array_end_word.ensures ∙ ap (λ n. array_end_word (n + 1)) count);
     }

@@ -23,8 +23,8 @@ module _ (g : Graph) (p : Retiming) (o : Order) (e : listed o ≡ order g p) (f 
   pub node_below : get_or o.nodes k 0 < g.count
   node_below = subst (λ i. i < g.count) (get_or-take o.count o.nodes k 0 l) (f.only (get_or (listed o) k 0) (has_at (listed o) k (omega (arith, f.whole))))
 
-pub put-cell-requires : goal.put-cell-requires
-put-cell-requires c =
+pub put_cell-requires : goal.put_cell-requires
+put_cell-requires c =
     let g : Graph = c.args.self.now.design.graph in
     let p : Retiming = c.args.self.now.retiming in
     let o : Order = c.order-order.result in
@@ -45,9 +45,9 @@ loop-rank-preserved c =
     let few = (ranges g c.args.self.now.design.sound).few in
     let whole = count_whole g few p o c.order-order.ensures.kept c.order-order.ensures.listed c.order-order.ensures.fires in
     let node = node_is g p o c.order-order.ensures.listed c.order-order.ensures.fires whole k c.loop-rank-test.true in (
-      c.put-cell.ensures.table,
-      omega (arith, c.put-cell.ensures.count, c.loop-rank.invariant.1),
-      c.put-cell.ensures.put ∙ ap (λ i. put c.loop-rank.program ++ cell g p i) node
+      c.put_cell.ensures.table,
+      omega (arith, c.put_cell.ensures.count, c.loop-rank.invariant.1),
+      c.put_cell.ensures.put ∙ ap (λ i. put c.loop-rank.program ++ cell g p i) node
           ∙ turn_more (λ r. cell g p (get_or (order g p) r 0)) (put c.args.program.now) (put c.loop-rank.program) k c.loop-rank.invariant.2,
     )
 

@@ -9,13 +9,13 @@ use Rattle.bench.specs.Retimings.{current_delay}
 use Rattle.bench.proofs.Emitting.{turn_none, turn_more, delay_few}
 use Rattle.bench.proofs.Soundness.{sound}
 use Rattle.bench.proofs.bench.Bench.put_taps.Goals as goal
-use Rattle.bench.proofs.bench.Bench.put_taps.Goals.{in-Some, in-default}
+use Rattle.bench.proofs.bench.Bench.put_taps.Goals.{in-Some, in_default}
 
 pub loop-source-init : goal.loop-source-init
 loop-source-init c = (c.requires.table, omega arith, turn_none _ _)
 
-pub tap-word-requires : goal.tap-word-requires
-tap-word-requires c =
+pub tap_word-requires : goal.tap_word-requires
+tap_word-requires c =
     let g : Graph = c.args.self.now.design.graph in
     let p : Retiming = c.args.self.now.retiming in
     (omega (arith, c.loop-source-test.true), delay_few g (ranges g c.args.self.now.design.sound) p (sound g p c.args.self.now.sound) c.args.node c.loop-source.source c.in-Some.delay (sym c.in-Some.ensures))
@@ -35,9 +35,9 @@ loop-source-preserved c =
         ap put w.program-is ∙ w.push.ensures.put ∙ ap (λ v. put c.loop-source.program ++ v ∷ []) w.tap_word.ensures
             ∙ ap (λ o. put c.loop-source.program ++ tap_if j o) w.in-Some.ensures ∙ more,
       )
-      | in-default w ↦ (
+      | in_default w ↦ (
         ap (λ (x : ProgramWords). length x.words) w.program-is ∙ c.loop-source.invariant.0,
         omega (arith, ap (λ (x : ProgramWords). x.count) w.program-is, c.loop-source.invariant.1),
-        ap put w.program-is ∙ sym (append-nil (put c.loop-source.program)) ∙ ap (λ o. put c.loop-source.program ++ tap_if j o) w.in-default.ensures ∙ more,
+        ap put w.program-is ∙ sym (append-nil (put c.loop-source.program)) ∙ ap (λ o. put c.loop-source.program ++ tap_if j o) w.in_default.ensures ∙ more,
       )
     ]

@@ -9,7 +9,7 @@ use Rattle.bench.specs.Calls.{call_fault, counts_as, after, ended, if_accepted, 
 use Rattle.bench.specs.Refusals.{unless}
 use Rattle.bench.proofs.Sending.{law_ended, ended_more, moves_more, accepted_none, refused_some, ended_all, moves_all}
 use Rattle.bench.proofs.bench.Bench.send.Goals as goal
-use Rattle.bench.proofs.bench.Bench.send.Goals.{then-is-ok, else-is-ok}
+use Rattle.bench.proofs.bench.Bench.send.Goals.{then-is_ok, else-is_ok}
 
 pub loop-call-preserved : goal.loop-call-preserved
 loop-call-preserved c =
@@ -25,18 +25,18 @@ loop-call-preserved c =
     let answer : c.make.result ≡ unless (call_fault g p (get_or cs k d)) tt = c.make.ensures.answer ∙ ap (λ x. unless (call_fault x p (get_or cs k d)) tt) graph in
     let rest = ap (λ q. length (moves g q (drop (k + 1) cs))) moved' in
     let more = ap length (moves_more g p cs k d l) in
-    elim c.if-is-ok.branch [
-      | then-is-ok w ↦
-          let none = accepted_none (call_fault g p (get_or cs k d)) (sym (ap is_ok answer) ∙ sym c.is-ok.ensures.value ∙ w.if-is-ok.true) in
+    elim c.if-is_ok.branch [
+      | then-is_ok w ↦
+          let none = accepted_none (call_fault g p (get_or cs k d)) (sym (ap is_ok answer) ∙ sym c.is_ok.ensures.value ∙ w.if-is_ok.true) in
           let one = ap (λ o. length (if_accepted o (counts_as g p (get_or cs k d)) (moves g (after g p (get_or cs k d)) (drop (k + 1) cs)))) none in (
             c.make.ensures.design ∙ inv.0,
             ap (λ q. ended g q (drop (k + 1) cs)) moved' ∙ ended_more g p cs k d l ∙ inv.1,
             omega (arith, w.accepted-is, inv.2),
             omega (arith, w.accepted-is, inv.3),
           )
-      | else-is-ok w ↦
+      | else-is_ok w ↦
           let same =
-          refused_some (call_fault g p (get_or cs k d)) (counts_as g p (get_or cs k d)) (moves g (after g p (get_or cs k d)) (drop (k + 1) cs)) (sym (ap is_ok answer) ∙ sym c.is-ok.ensures.value ∙ w.if-is-ok.false) in
+          refused_some (call_fault g p (get_or cs k d)) (counts_as g p (get_or cs k d)) (moves g (after g p (get_or cs k d)) (drop (k + 1) cs)) (sym (ap is_ok answer) ∙ sym c.is_ok.ensures.value ∙ w.if-is_ok.false) in
           let none = ap length same in (
             c.make.ensures.design ∙ inv.0,
             ap (λ q. ended g q (drop (k + 1) cs)) moved' ∙ ended_more g p cs k d l ∙ inv.1,

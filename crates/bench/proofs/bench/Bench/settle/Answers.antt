@@ -18,11 +18,11 @@ use Rattle.bench.proofs.Soundness.{sound}
 use Rattle.bench.proofs.Settling.{ranks_row, ranks_fit, ranks_long}
 use Rattle.bench.proofs.bench.Bench.settle.Goals as goal
 
-row : (c : goal.After-make-move-arg-2·1) → take (c.count-count.result - 0) c.ranks-by-node-ranks.result ≡ ranks c.args.self.now.design.graph c.args.self.now.retiming
+row : (c : goal.After-make_move-arg-2·1) → take (c.count-count.result - 0) c.ranks_by_node-ranks.result ≡ ranks c.args.self.now.design.graph c.args.self.now.retiming
 row c =
     let g : Graph = c.args.self.now.design.graph in
     ranks_row g (ranges g c.args.self.now.design.sound).few c.args.self.now.retiming c.order.result c.order.ensures.kept c.order.ensures.listed c.order.ensures.fires
-    c.ranks-by-node-ranks.result c.count-count.result c.count-count.ensures c.ranks-by-node-ranks.ensures.ranks
+    c.ranks_by_node-ranks.result c.count-count.result c.count-count.ensures c.ranks_by_node-ranks.ensures.ranks
 
 -- an accepted settle leaves the settled retiming
 module _ (g : Graph) (few : g.count ≤ max_nodes) (p : Retiming) (s : Sound g p) (fires : Fires g p (order g p)) where
@@ -35,8 +35,8 @@ module _ (g : Graph) (few : g.count ≤ max_nodes) (p : Retiming) (s : Sound g p
           (subst (λ m. C1Holds g m) (sym e) (settled_c1 g few p s fires sm), subst (λ m. C2Holds g m) (sym e) (settled_c2 g few p s fires sm))
       by (Some f) ok e = absurd (false≢true (ap is_ok ok))
 
-pub make-move-requires : goal.make-move-requires
-make-move-requires c =
+pub make_move-requires : goal.make_move-requires
+make_move-requires c =
     let g : Graph = c.args.self.now.design.graph in
     let p : Retiming = c.args.self.now.retiming in
     let r = ranges g c.args.self.now.design.sound in
@@ -58,15 +58,15 @@ returns c =
     let p : Retiming = c.args.self.now.retiming in
     let row' =
     ranks_row g (ranges g c.args.self.now.design.sound).few p c.order.result c.order.ensures.kept c.order.ensures.listed c.order.ensures.fires
-    c.ranks-by-node-ranks.result c.count-count.result c.count-count.ensures c.ranks-by-node-ranks.ensures.ranks in
+    c.ranks_by_node-ranks.result c.count-count.result c.count-count.ensures c.ranks_by_node-ranks.ensures.ranks in
     let few = (ranges g c.args.self.now.design.sound).few in
     let s = sound g p c.args.self.now.sound in
-    let answer = c.make-move.ensures.answer ∙ ap₂ (λ n l. unless (made_fault g p n l) tt) c.count-count.ensures row' in
-    let retiming = c.make-move.ensures.retiming ∙ ap₂ (λ n l. unless_kept (made_fault g p n l) (moved p n l) p) c.count-count.ensures row' in
-    let end = subst (λ (d : Design). Sound d.graph c.make-move.new.self.retiming) c.make-move.ensures.design (sound _ _ c.make-move.new.self.sound) in
+    let answer = c.make_move.ensures.answer ∙ ap₂ (λ n l. unless (made_fault g p n l) tt) c.count-count.ensures row' in
+    let retiming = c.make_move.ensures.retiming ∙ ap₂ (λ n l. unless_kept (made_fault g p n l) (moved p n l) p) c.count-count.ensures row' in
+    let end = subst (λ (d : Design). Sound d.graph c.make_move.new.self.retiming) c.make_move.ensures.design (sound _ _ c.make_move.new.self.sound) in
     record {
       answer = answer;
-      design = c.make-move.ensures.design;
+      design = c.make_move.ensures.design;
       retiming = retiming;
-      systolic = λ ok. accepted g few p s (fires_order g few p s c.args.self.now.ordered) c.make-move.new.self.retiming end (sym answer ∙ ok) retiming;
+      systolic = λ ok. accepted g few p s (fires_order g few p s c.args.self.now.ordered) c.make_move.new.self.retiming end (sym answer ∙ ok) retiming;
     }

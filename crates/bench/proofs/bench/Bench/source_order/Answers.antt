@@ -25,13 +25,13 @@ ranked_rest g l f =
 pub firing-requires : goal.firing-requires
 firing-requires c =
     let g : Graph = c.args.self.now.design.graph in
-    record { sound = subst (Sound g) (sym c.at-rest.ensures) (sound_rest g (ranges g c.args.self.now.design.sound)) }
+    record { sound = subst (Sound g) (sym c.at_rest.ensures) (sound_rest g (ranges g c.args.self.now.design.sound)) }
 
 pub returns : goal.returns
 returns c =
     let g : Graph = c.args.self.now.design.graph in
     let range = ranges g c.args.self.now.design.sound in
-    let is = c.firing.ensures.listed ∙ ap (order g) c.at-rest.ensures in
+    let is = c.firing.ensures.listed ∙ ap (order g) c.at_rest.ensures in
     record {
       kept = c.firing.ensures.kept;
       listed = is;

@@ -13,16 +13,16 @@ returns-in-Some c =
     let e : c.in-Some.breach ≡ verdict g p = ap (λ o. judged o (c2_breach g p)) c.in-Some.ensures in
     record { answer = e; holds = verdict_holds g p c.in-Some.breach e; systolic = verdict_systolic g p c.in-Some.breach e }
 
-pub returns-in-Some-c2-breach : goal.returns-in-Some-c2-breach
-returns-in-Some-c2-breach c =
+pub returns-in-Some-c2_breach : goal.returns-in-Some-c2_breach
+returns-in-Some-c2_breach c =
     let g : Graph = c.args.self.now.design.graph in
     let p : Retiming = c.args.self.now.retiming in
-    let e : c.in-Some-c2-breach.breach ≡ verdict g p = ap₂ judged c.in-default.ensures c.in-Some-c2-breach.ensures in
-    record { answer = e; holds = verdict_holds g p c.in-Some-c2-breach.breach e; systolic = verdict_systolic g p c.in-Some-c2-breach.breach e }
+    let e : c.in-Some-c2_breach.breach ≡ verdict g p = ap₂ judged c.in_default.ensures c.in-Some-c2_breach.ensures in
+    record { answer = e; holds = verdict_holds g p c.in-Some-c2_breach.breach e; systolic = verdict_systolic g p c.in-Some-c2_breach.breach e }
 
 pub returns : goal.returns
 returns c =
     let g : Graph = c.args.self.now.design.graph in
     let p : Retiming = c.args.self.now.retiming in
-    let e : Systolic ≡ verdict g p = ap₂ judged c.in-default.ensures c.in-default-c2-breach.ensures in
+    let e : Systolic ≡ verdict g p = ap₂ judged c.in_default.ensures c.in_default-c2_breach.ensures in
     record { answer = e; holds = verdict_holds g p Systolic e; systolic = verdict_systolic g p Systolic e }

@@ -24,7 +24,7 @@ list-requires c =
     let l : List ℕ = listed c.loop-turn.order in
     let h : next g.count w l ≡ Some c.in-Some.node = sym c.in-Some.ensures in
     let s = next_some g.count w l c.in-Some.node h in
-    let fine = subst (λ x. Rattle.bench.proofs.Fires.Fine g.count w x) (sym c.loop-turn.invariant.1) (fired_fine g.count w c.loop-turn.-turn) in
+    let fine = subst (λ x. Rattle.bench.proofs.Fires.Fine g.count w x) (sym c.loop-turn.invariant.1) (fired_fine g.count w c.loop-turn._turn) in
     let few = distinct_few g.count (l ++ c.in-Some.node ∷ []) (next_fine g.count w l c.in-Some.node fine h).distinct in
     let long = length-take-le c.loop-turn.order.count c.loop-turn.order.nodes (omega (arith, c.loop-turn.invariant.0.few, c.loop-turn.invariant.0.nodes)) in
     record {
@@ -38,18 +38,18 @@ pub loop-turn-preserved : goal.loop-turn-preserved
 loop-turn-preserved c =
     let g : Graph = c.args.design.now.graph in
     let w = waits g c.args.retiming.now in
-    let k : ℕ = c.loop-turn.-turn in
+    let k : ℕ = c.loop-turn._turn in
     let h : next g.count w (listed_after g.count w k) ≡ Some c.in-Some.node = ap (next g.count w) (sym c.loop-turn.invariant.1) ∙ sym c.in-Some.ensures in (
       c.list.ensures.kept,
       c.list.ensures.listed ∙ ap (λ l. l ++ c.in-Some.node ∷ []) c.loop-turn.invariant.1 ∙ sym (fired_more g.count w k c.in-Some.node h) ∙ ap (listed_after g.count w) (sym (add-one k)),
     )
 
-pub returns-in-default : goal.returns-in-default
-returns-in-default c =
+pub returns-in_default : goal.returns-in_default
+returns-in_default c =
     let g : Graph = c.args.design.now.graph in
     let w = waits g c.args.retiming.now in
-    let k : ℕ = c.loop-turn.-turn in
-    let h : next g.count w (listed_after g.count w k) ≡ None = ap (next g.count w) (sym c.loop-turn.invariant.1) ∙ sym c.in-default.ensures in
+    let k : ℕ = c.loop-turn._turn in
+    let h : next g.count w (listed_after g.count w k) ≡ None = ap (next g.count w) (sym c.loop-turn.invariant.1) ∙ sym c.in_default.ensures in
     let all : k + (g.count - k) ≡ g.count = omega (arith, c.loop-turn-test.true, c.count-turn-end.ensures) in
     record {
       kept = c.loop-turn.invariant.0;
@@ -60,5 +60,5 @@ pub returns-after-loop-turn : goal.returns-after-loop-turn
 returns-after-loop-turn c =
     let g : Graph = c.args.design.now.graph in
     let w = waits g c.args.retiming.now in
-    let all : c.loop-turn.-turn ≡ g.count = omega (arith, c.loop-turn-test.false, c.loop-turn.auto, c.count-turn-end.ensures) in
+    let all : c.loop-turn._turn ≡ g.count = omega (arith, c.loop-turn-test.false, c.loop-turn.auto, c.count-turn-end.ensures) in
     record { kept = c.loop-turn.invariant.0; listed = c.loop-turn.invariant.1 ∙ ap (listed_after g.count w) all }

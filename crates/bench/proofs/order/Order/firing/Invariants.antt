@@ -5,4 +5,4 @@ use Rattle.bench.specs.Retimings.{waits}
 use Rattle.bench.proofs.order.Order.firing.Given as goal
 
 abbrev pub invariant-loop-turn : goal.invariant-loop-turn
-invariant-loop-turn l = Kept l.order × (listed l.order ≡ listed_after l.design.graph.count (waits l.design.graph l.retiming) l.-turn)
+invariant-loop-turn l = Kept l.order × (listed l.order ≡ listed_after l.design.graph.count (waits l.design.graph l.retiming) l._turn)

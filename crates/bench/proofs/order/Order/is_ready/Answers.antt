@@ -5,10 +5,10 @@ use Rattle.bench.specs.Firing.{held_by, free}
 use Rattle.bench.proofs.Ordered.{has_rank}
 use Rattle.bench.proofs.order.Order.is_ready.Goals as goal
 
-pub returns-then-is-some : goal.returns-then-is-some
-returns-then-is-some c =
+pub returns-then-is_some : goal.returns-then-is_some
+returns-then-is_some c =
     let r = ranges c.args.design.now.graph c.args.design.now.sound in
-    let h = has_rank c.args.self.now c.requires.kept c.args.node true (omega (arith, r.few, c.requires.node)) c.if-is-some.ensures in
+    let h = has_rank c.args.self.now c.requires.kept c.args.node true (omega (arith, r.few, c.requires.node)) c.if-is_some.ensures in
     sym (cond-true _ _ _ h)
 
 freed : (o : Option ℕ) (b : Bool) (i : ℕ) → is_some o ≡ not b → cond b (Some i) None ≡ free o i
@@ -20,11 +20,11 @@ freed (Some j) false i e = refl
 pub returns : goal.returns
 returns c =
     let r = ranges c.args.design.now.graph c.args.design.now.sound in
-    let h = has_rank c.args.self.now c.requires.kept c.args.node false (omega (arith, r.few, c.requires.node)) c.if-is-some.ensures in
-    freed c.held-by.result c.is-none.result c.args.node c.is-none.ensures ∙ ap (λ o. free o c.args.node) c.held-by.ensures ∙ sym (cond-false _ _ _ h)
+    let h = has_rank c.args.self.now c.requires.kept c.args.node false (omega (arith, r.few, c.requires.node)) c.if-is_some.ensures in
+    freed c.held_by.result c.is_none.result c.args.node c.is_none.ensures ∙ ap (λ o. free o c.args.node) c.held_by.ensures ∙ sym (cond-false _ _ _ h)
 
-pub offset-bounds-self-node : goal.offset-bounds-self-node
-offset-bounds-self-node c = omega (arith, (ranges c.args.design.now.graph c.args.design.now.sound).few, c.requires.node)
+pub offset_bounds-self-node : goal.offset_bounds-self-node
+offset_bounds-self-node c = omega (arith, (ranges c.args.design.now.graph c.args.design.now.sound).few, c.requires.node)
 
 pub bounds-self-node : goal.bounds-self-node
 bounds-self-node c = omega (arith, (ranges c.args.design.now.graph c.args.design.now.sound).few, c.requires.node)

@@ -8,18 +8,18 @@ use Rattle.bench.proofs.order.Order.next.Goals as goal
 pub loop-node-init : goal.loop-node-init
 loop-node-init c = first_start _
 
-pub is-ready-requires : goal.is-ready-requires
-is-ready-requires c = record { kept = c.requires.kept; sound = c.requires.sound; node = omega (arith, c.loop-node-test.true, c.count-node-end.ensures) }
+pub is_ready-requires : goal.is_ready-requires
+is_ready-requires c = record { kept = c.requires.kept; sound = c.requires.sound; node = omega (arith, c.loop-node-test.true, c.count-node-end.ensures) }
 
-pub returns-then-is-ready : goal.returns-then-is-ready
-returns-then-is-ready c =
+pub returns-then-is_ready : goal.returns-then-is_ready
+returns-then-is_ready c =
     sym (first_found (ready c.args.design.now.graph.count (waits c.args.design.now.graph c.args.retiming.now) (listed c.args.self.now)) c.args.design.now.graph.count c.loop-node.node c.loop-node.node
-    (omega (arith, c.loop-node-test.true, c.count-node-end.ensures)) c.loop-node.invariant (sym c.if-is-ready.ensures))
+    (omega (arith, c.loop-node-test.true, c.count-node-end.ensures)) c.loop-node.invariant (sym c.if-is_ready.ensures))
 
 pub loop-node-preserved : goal.loop-node-preserved
 loop-node-preserved c =
     first_more (ready c.args.design.now.graph.count (waits c.args.design.now.graph c.args.retiming.now) (listed c.args.self.now)) c.loop-node.node c.loop-node.invariant
-    (sym c.if-is-ready.ensures)
+    (sym c.if-is_ready.ensures)
 
 pub returns : goal.returns
 returns c =

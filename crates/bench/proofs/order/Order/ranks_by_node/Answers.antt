@@ -24,5 +24,5 @@ loop-node-preserved c =
     let o : Order = c.args.self.now in
     let k : ℕ = c.loop-node.node in
     let few : k < 32 = omega (arith, c.loop-node-test.true, c.requires.kept.few) in
-    let e = rank_at o c.requires.kept k few (c.requires.whole k c.loop-node-test.true) c.unwrap-or.result c.unwrap-or.ensures in
-    (length-set c.loop-node.ranks k _ ∙ c.loop-node.invariant.0, ranks_more o c.loop-node.ranks k _ c.loop-node.invariant.0 few c.loop-node.invariant.1 (to_z_pos w32 c.unwrap-or.result (omega (arith, c.unwrap-or.type-inv)) ∙ ap pos e))
+    let e = rank_at o c.requires.kept k few (c.requires.whole k c.loop-node-test.true) c.unwrap_or.result c.unwrap_or.ensures in
+    (length-set c.loop-node.ranks k _ ∙ c.loop-node.invariant.0, ranks_more o c.loop-node.ranks k _ c.loop-node.invariant.0 few c.loop-node.invariant.1 (to_z_pos w32 c.unwrap_or.result (omega (arith, c.unwrap_or.type_inv)) ∙ ap pos e))

@@ -13,19 +13,19 @@ at l i = cond (has l i) None (Some i)
 pub loop-node-init : goal.loop-node-init
 loop-node-init c = first_start _
 
-pub offset-bounds-self-node : goal.offset-bounds-self-node
-offset-bounds-self-node c =
+pub offset_bounds-self-node : goal.offset_bounds-self-node
+offset_bounds-self-node c =
     let few : c.loop-node.node < 32 = omega (arith, (ranges c.args.design.now.graph c.args.design.now.sound).few, c.loop-node-test.true, c.count-node-end.ensures) in
     search rules
 
 pub bounds-self-node : goal.bounds-self-node
 bounds-self-node c = omega (arith, (ranges c.args.design.now.graph c.args.design.now.sound).few, c.loop-node-test.true, c.count-node-end.ensures)
 
-pub returns-then-is-none : goal.returns-then-is-none
+pub returns-then-is_none : goal.returns-then-is_none
 unfolding at
-returns-then-is-none c =
+returns-then-is_none c =
     let few : c.loop-node.node < 32 = omega (arith, (ranges c.args.design.now.graph c.args.design.now.sound).few, c.loop-node-test.true, c.count-node-end.ensures) in
-    let lacks = has_rank c.args.self.now c.requires c.loop-node.node false few (sym c.if-is-none.ensures) in
+    let lacks = has_rank c.args.self.now c.requires c.loop-node.node false few (sym c.if-is_none.ensures) in
     sym (first_found (at (listed c.args.self.now)) c.args.design.now.graph.count c.loop-node.node c.loop-node.node
     (omega (arith, c.loop-node-test.true, c.count-node-end.ensures)) c.loop-node.invariant (cond-false _ _ _ lacks))
 
@@ -33,7 +33,7 @@ pub loop-node-preserved : goal.loop-node-preserved
 unfolding at
 loop-node-preserved c =
     let few : c.loop-node.node < 32 = omega (arith, (ranges c.args.design.now.graph c.args.design.now.sound).few, c.loop-node-test.true, c.count-node-end.ensures) in
-    let there = has_rank c.args.self.now c.requires c.loop-node.node true few (sym c.if-is-none.ensures) in
+    let there = has_rank c.args.self.now c.requires c.loop-node.node true few (sym c.if-is_none.ensures) in
     first_more (at (listed c.args.self.now)) c.loop-node.node c.loop-node.invariant (cond-true _ _ _ there)
 
 pub returns : goal.returns

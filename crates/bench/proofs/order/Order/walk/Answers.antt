@@ -26,8 +26,8 @@ loop-path-init c =
       subst (λ l. Follows w l c.args.start) e (follows_none w c.args.start),
     )
 
-pub offset-bounds-path-node : goal.offset-bounds-path-node
-offset-bounds-path-node c = omega (arith, (ranges c.args.design.now.graph c.args.design.now.sound).few, c.loop-path.invariant.2)
+pub offset_bounds-path-node : goal.offset_bounds-path-node
+offset_bounds-path-node c = omega (arith, (ranges c.args.design.now.graph c.args.design.now.sound).few, c.loop-path.invariant.2)
 
 pub bounds-path-node : goal.bounds-path-node
 bounds-path-node c = omega (arith, (ranges c.args.design.now.graph c.args.design.now.sound).few, c.loop-path.invariant.2)
@@ -91,8 +91,8 @@ returns-after-loop-path c =
     }
 
 -- a node that cannot be listed is held by one
-pub returns-in-default : goal.returns-in-default
-returns-in-default c =
+pub returns-in_default : goal.returns-in_default
+returns-in_default c =
     let g : Graph = c.args.design.now.graph in
     let held = next_none g.count (waits g c.args.retiming.now) (listed c.args.self.now) c.requires.stuck c.loop-path.node c.loop-path.invariant.2 c.loop-path.invariant.3 in
-    absurd (true≢false (ap is_some (sym held.1 ∙ sym c.in-default.ensures)))
+    absurd (true≢false (ap is_some (sym held.1 ∙ sym c.in_default.ensures)))

@@ -22,11 +22,11 @@ fits m s l low high = omega (arith, ints)
 scaled : (lag factor : ℕ) → lag ≤ 4095 → factor ≤ 64 → lag * factor ≤ 262080
 scaled lag factor l f = mul-le lag factor 4095 64 l f
 
-pub overflow-cast-lag : goal.overflow-cast-lag
-overflow-cast-lag c = let b = scaled c.args.self.now.lag c.args.factor c.requires.lag c.requires.factor in search rules
+pub overflow_cast-lag : goal.overflow_cast-lag
+overflow_cast-lag c = let b = scaled c.args.self.now.lag c.args.factor c.requires.lag c.requires.factor in search rules
 
-pub overflow-add-lag : goal.overflow-add-lag
-overflow-add-lag c =
+pub overflow_add-lag : goal.overflow_add-lag
+overflow_add-lag c =
     let m : ℕ = c.args.self.now.lag * c.args.factor in
     let b = scaled c.args.self.now.lag c.args.factor c.requires.lag c.requires.factor in
     subst (SFits w32) (sym (summed m c.args.shift b c.ranges.shift)) (fits m c.args.shift b c.requires.shift.0 c.requires.shift.1)

@@ -23,14 +23,14 @@ by_output g p h = none_or _ (output_fault g p) h
 same_delay : (g : Graph) (p : Retiming) (o : Output) → o ≡ g.output → p.factor * o.delay ≡ output_delay g p
 same_delay g p o e = ap (λ (x : Output). p.factor * x.delay) e
 
-pub returns-then-self-output-gt-MAX-DELAY : goal.returns-then-self-output-gt-MAX-DELAY
-returns-then-self-output-gt-MAX-DELAY c =
+pub returns-then-self-output-gt-MAX_DELAY : goal.returns-then-self-output-gt-MAX_DELAY
+returns-then-self-output-gt-MAX_DELAY c =
     let g : Graph = c.args.design.now.graph in
     let p : Retiming = c.args.self.now in
     let d = same_delay g p c.output-output.result c.output-output.ensures in
     ap (λ o. unless o tt)
     (ap Some (c.refusal.ensures ∙ ap (λ (x : Output). delay_out input x.node) c.output-output.ensures)
-    ∙ sym (cond-false _ _ _ (lt-leb (output_delay g p) max_delay (omega (arith, c.if-self-output-gt-MAX-DELAY.true)))) ∙ sym (by_output g p (sym c.in-default.ensures)))
+    ∙ sym (cond-false _ _ _ (lt-leb (output_delay g p) max_delay (omega (arith, c.if-self-output-gt-MAX_DELAY.true)))) ∙ sym (by_output g p (sym c.in_default.ensures)))
 
 pub returns : goal.returns
 returns c =
@@ -38,4 +38,4 @@ returns c =
     let p : Retiming = c.args.self.now in
     let d = same_delay g p c.output-output.result c.output-output.ensures in
     ap (λ o. unless o tt)
-    (sym (cond-true _ _ _ (le-leb (output_delay g p) max_delay (omega (arith, c.if-self-output-gt-MAX-DELAY.false)))) ∙ sym (by_output g p (sym c.in-default.ensures)))
+    (sym (cond-true _ _ _ (le-leb (output_delay g p) max_delay (omega (arith, c.if-self-output-gt-MAX_DELAY.false)))) ∙ sym (by_output g p (sym c.in_default.ensures)))

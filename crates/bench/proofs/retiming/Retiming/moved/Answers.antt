@@ -23,6 +23,6 @@ unfolding first_of
 returns c =
     let p : Retiming = c.args.self.now in
     let lags : ℕ → ℤ = moved_lag p c.args.factor c.args.shifts.now in
-    let none = lags_none 32 lags (ap (first_of lags) (sym c.requires.table) ∙ sym c.in-default.ensures.answer) in
-    ap Ok (moved_by p c.args.factor c.args.shifts.now c.retime-all.new.records c.requires.table (c.in-default.ensures.state refl))
+    let none = lags_none 32 lags (ap (first_of lags) (sym c.requires.table) ∙ sym c.in_default.ensures.answer) in
+    ap Ok (moved_by p c.args.factor c.args.shifts.now c.retime_all.new.records c.requires.table (c.in_default.ensures.state refl))
     ∙ sym (ap (λ o. unless o (moved p c.args.factor c.args.shifts.now)) (sym c.requires.past ∙ none))

@@ -18,14 +18,14 @@ fits c =
     let f = feed_fits g c.args.self.now r c.requires.sound c.args.node c.args.source c.in-Some.delay (sym c.feed-feed.ensures ∙ c.in-Some.is) in
     (f.0, omega (arith, c.requires.source, r.few))
 
-pub offset-bounds-self-node : goal.offset-bounds-self-node
-offset-bounds-self-node c = omega (arith, fits (goal.at.offset-bounds-self-node c).In-Some)
+pub offset_bounds-self-node : goal.offset_bounds-self-node
+offset_bounds-self-node c = omega (arith, fits (goal.at.offset_bounds-self-node c).In-Some)
 
 pub bounds-self-node : goal.bounds-self-node
 bounds-self-node c = omega (arith, fits (goal.at.bounds-self-node c).In-Some)
 
-pub offset-bounds-self-source : goal.offset-bounds-self-source
-offset-bounds-self-source c = omega (arith, fits (goal.at.offset-bounds-self-source c).In-Some)
+pub offset_bounds-self-source : goal.offset_bounds-self-source
+offset_bounds-self-source c = omega (arith, fits (goal.at.offset_bounds-self-source c).In-Some)
 
 pub bounds-self-source : goal.bounds-self-source
 bounds-self-source c = omega (arith, fits (goal.at.bounds-self-source c).In-Some)
