@@ -7,8 +7,8 @@ use crate::library::CellLibrary;
 
 /// Applies an operation to operands, each with its source, in order.
 pub fn apply<L: CellLibrary>(library: &mut L, operation: u8, operands: &[(u8, L::Elem)]) -> L::Elem
-    ensures value { Sourced operands.now → result ≡ applied (meaning library.old) operation operands.now }
-    ensures same { meaning library.new ≡ meaning library.old }
+    ensures value { Sourced operands.now → result ≡ applied (L.meaning library.old) operation operands.now }
+    ensures same { L.meaning library.new ≡ L.meaning library.old }
 {
     let mut sum = library.first(operation);
     for operand in operands {

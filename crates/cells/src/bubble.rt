@@ -18,7 +18,7 @@ impl<L: CellLibrary> CellLibrary for Bubble<L> {
 
     type Acc = Option<L::Acc>;
 
-    ghost meaning = { λ s. bubble_meaning (L.CellLibrary.meaning s.below) };
+    ghost meaning = { λ s. bubble_meaning (L.meaning s.below) };
 
     fn first(&mut self, operation: u8) -> Option<L::Acc> {
         Some(self.below.first(operation))
@@ -48,9 +48,9 @@ impl<L: CellLibrary> CellLibrary for Bubble<L> {
 impl<L: CellLibrary> Bubble<L> {
     /// The value of an operation: present exactly when all operands are, with the value below.
     pub fn value(&mut self, operation: u8, operands: &[(u8, Option<L::Elem>)]) -> Option<L::Elem>
-        ensures applied { Sourced operands.now → result ≡ applied (bubble_meaning (L.CellLibrary.meaning self.old.below)) operation operands.now }
-        ensures bubbled { Sourced operands.now → result ≡ bubbled (L.CellLibrary.meaning self.old.below) operation operands.now }
-        ensures same { bubble_meaning (L.CellLibrary.meaning self.new.below) ≡ bubble_meaning (L.CellLibrary.meaning self.old.below) }
+        ensures applied { Sourced operands.now → result ≡ applied (bubble_meaning (L.meaning self.old.below)) operation operands.now }
+        ensures bubbled { Sourced operands.now → result ≡ bubbled (L.meaning self.old.below) operation operands.now }
+        ensures same { bubble_meaning (L.meaning self.new.below) ≡ bubble_meaning (L.meaning self.old.below) }
     {
         apply(self, operation, operands)
     }

@@ -91,7 +91,7 @@ invariant_of-self-2 c =
     let s =
     sound_moved p c.args.factor c.args.shifts.now g (ranges g c.args.self.now.design.sound) (sound g p c.args.self.now.sound) c.requires.few c.requires.factor.0
     c.if-current-factor-gt-MAX_FACTOR.false none in
-    (subst (λ q. ∥ Sound g q ∥₁) (sym m.0) ∣ s ∣₁, (c.args.self.now.ordered, tt))
+    record { sound = subst (λ q. ∥ Sound g q ∥₁) (sym m.0) ∣ s ∣₁; ordered = c.args.self.now.ordered }
 
 pub returns : goal.returns
 returns c =

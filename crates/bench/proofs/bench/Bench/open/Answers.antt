@@ -61,7 +61,10 @@ pub invariant_of-result : goal.invariant_of-result
 invariant_of-result c =
     let g : Graph = c.args.design.now.graph in
     let p : Retiming = c.at_rest-retiming.result in
-    (∣ rest_sound g p c.at_rest-retiming.ensures (ranges g c.args.design.now.sound) ∣₁, (whole g p c.at_rest-retiming.ensures (listed c.firing-order.result) c.firing-order.ensures.listed c.in_default.ensures, tt))
+    record {
+      sound = ∣ rest_sound g p c.at_rest-retiming.ensures (ranges g c.args.design.now.sound) ∣₁;
+      ordered = whole g p c.at_rest-retiming.ensures (listed c.firing-order.result) c.firing-order.ensures.listed c.in_default.ensures;
+    }
 
 pub returns-in_default : goal.returns-in_default
 returns-in_default c =

@@ -18,12 +18,6 @@ use Rattle.bench.proofs.Soundness.{sound}
 use Rattle.bench.proofs.Settling.{ranks_row, ranks_fit, ranks_long}
 use Rattle.bench.proofs.bench.Bench.settle.Goals as goal
 
-row : (c : goal.After-make_move-arg-2·1) → take (c.count-count.result - 0) c.ranks_by_node-ranks.result ≡ ranks c.args.self.now.design.graph c.args.self.now.retiming
-row c =
-    let g : Graph = c.args.self.now.design.graph in
-    ranks_row g (ranges g c.args.self.now.design.sound).few c.args.self.now.retiming c.order.result c.order.ensures.kept c.order.ensures.listed c.order.ensures.fires
-    c.ranks_by_node-ranks.result c.count-count.result c.count-count.ensures c.ranks_by_node-ranks.ensures.ranks
-
 -- an accepted settle leaves the settled retiming
 module _ (g : Graph) (few : g.count ≤ max_nodes) (p : Retiming) (s : Sound g p) (fires : Fires g p (order g p)) where
   accepted : (q : Retiming) → Sound g q → unless (settle_fault g p) (tt {0}) ≡ Ok (tt {0}) → q ≡ unless_kept (settle_fault g p) (moved p g.count (ranks g p)) p → C1Holds g q × C2Holds g q
@@ -42,12 +36,15 @@ make_move-requires c =
     let r = ranges g c.args.self.now.design.sound in
     let o : Order = c.order.result in
     let fit = ranks_fit g r.few p o c.order.ensures.kept c.order.ensures.listed c.order.ensures.fires in
+    let row : take (c.count-count.result - 0) c.ranks_by_node-ranks.result ≡ ranks g p =
+    ranks_row g r.few p o c.order.ensures.kept c.order.ensures.listed c.order.ensures.fires
+    c.ranks_by_node-ranks.result c.count-count.result c.count-count.ensures c.ranks_by_node-ranks.ensures.ranks in
     record {
       factor = (omega (arith, r.some, c.count-count.ensures), omega (arith, r.few, c.count-count.ensures));
-      few = omega (arith, ap length (row c), ranks_long g r.few p o c.order.ensures.kept c.order.ensures.listed c.order.ensures.fires);
+      few = omega (arith, ap length row, ranks_long g r.few p o c.order.ensures.kept c.order.ensures.listed c.order.ensures.fires);
       shifts = (
-        λ i. subst (λ l. negsuc 4094 ≤ℤ get_or l i (pos 0)) (sym (row c)) (fit i).0,
-        λ i. subst (λ l. get_or l i (pos 0) ≤ℤ pos 4095) (sym (row c)) (fit i).1,
+        λ i. subst (λ l. negsuc 4094 ≤ℤ get_or l i (pos 0)) (sym row) (fit i).0,
+        λ i. subst (λ l. get_or l i (pos 0) ≤ℤ pos 4095) (sym row) (fit i).1,
       );
     }
 
