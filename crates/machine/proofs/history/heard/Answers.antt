@@ -10,8 +10,8 @@ bounds-history-then g c =
     place_within c.args.count (length c.args.inputs.now) (length c.args.history.now) (c.args.time - c.args.tap.delay) c.args.tap.source (omega (arith, c.requires.time))
     (source_node c.args.count c.args.tap.source c.requires.source c.if-source-eq-INPUT.false) c.requires.history
 
-pub offset-bounds-history-then : goal.offset-bounds-history-then
-offset-bounds-history-then g c = omega (arith, bounds-history-then g c)
+pub offset_bounds-history-then : goal.offset_bounds-history-then
+offset_bounds-history-then g c = omega (arith, bounds-history-then g c)
 
 pub returns-else-source-eq-INPUT : goal.returns-else-source-eq-INPUT
 returns-else-source-eq-INPUT g c d =

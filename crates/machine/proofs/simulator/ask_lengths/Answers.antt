@@ -6,9 +6,9 @@ pub returns-then-rest-count : goal.returns-then-rest-count
 unfolding simulate_fault
 returns-then-rest-count c = search rules
 
-pub returns-then-times-gt-MAX-TIMES : goal.returns-then-times-gt-MAX-TIMES
+pub returns-then-times-gt-MAX_TIMES : goal.returns-then-times-gt-MAX_TIMES
 unfolding simulate_fault
-returns-then-times-gt-MAX-TIMES c = search rules
+returns-then-times-gt-MAX_TIMES c = search rules
 
 pub returns-then-history-count : goal.returns-then-history-count
 unfolding simulate_fault

@@ -51,24 +51,24 @@ accepted : {E A : Type 0} (g : Graph) (m : Meaning E A) (rest inputs before afte
 accepted g m rest inputs before after outputs-before outputs-after none simulated =
     record { refuses = λ f fault. absurd (true≢false (ap is_some (sym fault ∙ none))); simulates = λ _. (refl, simulated) }
 
-pub ask-lengths-requires : goal.ask-lengths-requires
-ask-lengths-requires g c =
+pub ask_lengths-requires : goal.ask_lengths-requires
+ask_lengths-requires g c =
     omega (arith, (ranges c.args.bench.now.design.graph c.args.bench.now.design.sound).few, c.count.ensures, ap (λ (x : Design). x.graph.count) c.design-design.ensures)
 
-pub returns-in-err-ask-lengths : goal.returns-in-err-ask-lengths
-returns-in-err-ask-lengths g c =
+pub returns-in_err-ask_lengths : goal.returns-in_err-ask_lengths
+returns-in_err-ask_lengths g c =
     let graph = c.args.bench.now.design.graph in
     let n : c.count.result ≡ graph.count = c.count.ensures ∙ ap (λ (x : Design). x.graph.count) c.design-design.ensures in
-    let p = err_from_is_err_and c.from-residual.result c.from-residual.ensures.1 in
-    let fault = unless_err _ (tt {0}) c.in-err-ask-lengths.field-0.0 c.in-err-ask-lengths.ensures in
+    let p = err_from_is_err_and c.from_residual.result c.from_residual.ensures.1 in
+    let fault = unless_err _ (tt {0}) c.in_err-ask_lengths.field-0.0 c.in_err-ask_lengths.ensures in
     record {
-      values = refused graph (g.L.CellLibrary.meaning c.args.library.now) c.args.rest.now c.args.inputs.now c.args.history.now c.args.outputs.now c.from-residual.result c.in-err-ask-lengths.field-0.0
-          (subst (λ k. simulate_fault k (length c.args.rest.now) (length c.args.inputs.now) (length c.args.history.now) (length c.args.outputs.now) ≡ Some c.in-err-ask-lengths.field-0.0) n fault) (p.1 ∙ ap Err p.2);
+      values = refused graph (g.L.CellLibrary.meaning c.args.library.now) c.args.rest.now c.args.inputs.now c.args.history.now c.args.outputs.now c.from_residual.result c.in_err-ask_lengths.field-0.0
+          (subst (λ k. simulate_fault k (length c.args.rest.now) (length c.args.inputs.now) (length c.args.history.now) (length c.args.outputs.now) ≡ Some c.in_err-ask_lengths.field-0.0) n fault) (p.1 ∙ ap Err p.2);
       same = refl;
     }
 
-pub overflow-cast-tap : goal.overflow-cast-tap
-overflow-cast-tap g c =
+pub overflow_cast-tap : goal.overflow_cast-tap
+overflow_cast-tap g c =
     let graph = c.args.bench.now.design.graph in
     let range = ranges graph c.args.bench.now.design.sound in
     omega (arith, range.output_node, range.few, ap (λ (o : Output). o.node) c.output-output.ensures, ap (λ (x : Design). x.graph.output.node) c.design-design.ensures)
@@ -79,7 +79,7 @@ fire-requires g c =
     let range = ranges graph c.args.bench.now.design.sound in
     let whole = c.of-plan.ensures.whole in
     let n : c.count.result ≡ c.of-plan.result.count = c.count.ensures ∙ ap (λ (x : Design). x.graph.count) c.design-design.ensures ∙ sym whole.count in
-    let ok = asked _ _ _ _ _ (unless_none _ (tt {0}) (tt {0}) c.in-ok-ask-lengths.ensures) in
+    let ok = asked _ _ _ _ _ (unless_none _ (tt {0}) (tt {0}) c.in_ok-ask_lengths.ensures) in
     record {
       few = ok.1;
       firable = firable graph range (order graph at_rest) c.of-plan.ensures.ranked c.of-plan.result whole;
@@ -94,7 +94,7 @@ heard-requires g c =
     let range = ranges graph c.args.bench.now.design.sound in
     let whole = c.of-plan.ensures.whole in
     let n : c.count.result ≡ c.of-plan.result.count = c.count.ensures ∙ ap (λ (x : Design). x.graph.count) c.design-design.ensures ∙ sym whole.count in
-    let ok = asked _ _ _ _ _ (unless_none _ (tt {0}) (tt {0}) c.in-ok-ask-lengths.ensures) in
+    let ok = asked _ _ _ _ _ (unless_none _ (tt {0}) (tt {0}) c.in_ok-ask_lengths.ensures) in
     record {
       few = (omega (arith, whole.count, range.few), ok.1);
       source = node_source c.of-plan.result.count c.output-output.result.node
@@ -106,7 +106,7 @@ heard-requires g c =
 
 pub bounds-outputs-time : goal.bounds-outputs-time
 bounds-outputs-time g c =
-    let ok = asked _ _ _ _ _ (unless_none _ (tt {0}) (tt {0}) c.in-ok-ask-lengths.ensures) in
+    let ok = asked _ _ _ _ _ (unless_none _ (tt {0}) (tt {0}) c.in_ok-ask_lengths.ensures) in
     omega (arith, ok.3, c.loop-time-test.true, c.loop-time.auto.outputs)
 
 pub loop-time-init : goal.loop-time-init
@@ -121,7 +121,7 @@ loop-time-preserved g c =
     let T = length c.args.inputs.now in
     let t = c.loop-time.time in
     let h = c.fire.new.history in
-    let ok = asked _ _ _ _ _ (unless_none _ (tt {0}) (tt {0}) c.in-ok-ask-lengths.ensures) in
+    let ok = asked _ _ _ _ _ (unless_none _ (tt {0}) (tt {0}) c.in_ok-ask_lengths.ensures) in
     let out : c.output-output.result ≡ graph.output = c.output-output.ensures ∙ ap (λ (x : Design). x.graph.output) c.design-design.ensures in (
       c.fire.ensures.same ∙ c.loop-time.invariant.0,
       subst (λ k. drop (k * T) h ≡ drop (k * T) c.loop-time.history) whole.count c.fire.ensures.past ∙ c.loop-time.invariant.1,
@@ -145,7 +145,7 @@ returns g c =
     let range = ranges graph c.args.bench.now.design.sound in
     let ranked = c.of-plan.ensures.ranked in
     let n : c.count.result ≡ graph.count = c.count.ensures ∙ ap (λ (x : Design). x.graph.count) c.design-design.ensures in
-    let none = unless_none _ (tt {0}) (tt {0}) c.in-ok-ask-lengths.ensures in
+    let none = unless_none _ (tt {0}) (tt {0}) c.in_ok-ask_lengths.ensures in
     let all : c.loop-time.time ≡ length c.args.inputs.now = omega (arith, c.loop-time-test.false, c.loop-time.auto.time-end) in
     record {
       values = accepted graph m c.args.rest.now c.args.inputs.now c.args.history.now c.loop-time.history c.args.outputs.now c.loop-time.outputs

@@ -13,11 +13,11 @@ returns g c =
     let bench = c.args.bench.now in
     let graph = bench.design.graph in
     let range = ranges graph bench.design.sound in
-    let order = listed c.source-order.result in
-    let ranked = c.source-order.ensures.ranked in
+    let order = listed c.source_order.result in
+    let ranked = c.source_order.ensures.ranked in
     record {
-      kept = c.source-order.ensures.kept;
-      listed = c.source-order.ensures.listed;
+      kept = c.source_order.ensures.kept;
+      listed = c.source_order.ensures.listed;
       ranked = ranked;
       determined = λ m rest x. determined graph range order ranked m rest x;
       array = λ m rest x.

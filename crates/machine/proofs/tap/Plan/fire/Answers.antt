@@ -31,8 +31,8 @@ value-value-requires g c =
       history = omega (arith, c.requires.history, c.loop-rank.auto.history);
     }
 
-pub offset-bounds-history-time : goal.offset-bounds-history-time
-offset-bounds-history-time g c =
+pub offset_bounds-history-time : goal.offset_bounds-history-time
+offset_bounds-history-time g c =
     let plan = c.args.self.now in
     let front = place_front plan c.requires.firable c.loop-rank.rank (length c.args.inputs.now) c.args.time c.loop-rank-test.true c.requires.time in
     let l : c.args.time * plan.count + (cell_at plan c.loop-rank.rank).node < length c.loop-rank.history = omega (arith, front, c.requires.history, c.loop-rank.auto.history) in

@@ -36,20 +36,20 @@ module _ (g : Graph) (o : Order) (kept : Kept o) (is : listed o ≡ order g at_r
 pub of-requires : goal.of-requires
 of-requires c =
     let g : Graph = c.args.bench.now.design.graph in
-    let o : Order = c.source-order-order.result in
+    let o : Order = c.source_order-order.result in
     omega (
       arith,
       ap (λ (x : Design). x.graph.count) c.design.ensures,
-      all g o c.source-order-order.ensures.kept c.source-order-order.ensures.listed c.source-order-order.ensures.ranked,
+      all g o c.source_order-order.ensures.kept c.source_order-order.ensures.listed c.source_order-order.ensures.ranked,
       c.loop-rank-test.true,
-      node_below g o c.source-order-order.ensures.kept c.source-order-order.ensures.listed c.source-order-order.ensures.ranked c.loop-rank.rank c.loop-rank-test.true,
+      node_below g o c.source_order-order.ensures.kept c.source_order-order.ensures.listed c.source_order-order.ensures.ranked c.loop-rank.rank c.loop-rank-test.true,
     )
 
 pub loop-rank-preserved : goal.loop-rank-preserved
 loop-rank-preserved c = (
   length-set c.loop-rank.cells c.loop-rank.rank _ ∙ c.loop-rank.invariant.0,
-  one_more c.args.bench.now.design.graph c.source-order-order.result c.source-order-order.ensures.kept c.source-order-order.ensures.listed c.source-order-order.ensures.ranked
+  one_more c.args.bench.now.design.graph c.source_order-order.result c.source_order-order.ensures.kept c.source_order-order.ensures.listed c.source_order-order.ensures.ranked
       c.loop-rank.cells c.of.result c.loop-rank.rank c.loop-rank-test.true
-      (omega (arith, c.loop-rank.invariant.0, c.source-order-order.ensures.kept.few, c.loop-rank-test.true))
-      (subst (λ (x : Design). Planned x.graph (get_or c.source-order-order.result.nodes c.loop-rank.rank 0) c.of.result) c.design.ensures c.of.ensures) c.loop-rank.invariant.1,
+      (omega (arith, c.loop-rank.invariant.0, c.source_order-order.ensures.kept.few, c.loop-rank-test.true))
+      (subst (λ (x : Design). Planned x.graph (get_or c.source_order-order.result.nodes c.loop-rank.rank 0) c.of.result) c.design.ensures c.of.ensures) c.loop-rank.invariant.1,
 )
