@@ -6,6 +6,7 @@ ghost use Rattle.console.specs.Answer.{Answered};
 use bench::listing::list_design;
 use std::io;
 use std::io::{Read, Write};
+use std::process::ExitCode;
 use words::bytes::MAX_BYTES;
 use words::faults::Fault;
 use words::input::InputWords;
@@ -53,7 +54,7 @@ fn read_input(input: &mut impl Read, bytes: &mut [u8]) -> io::Result<usize>
     Ok(count)
 }
 
-fn main(rt: HostRuntime) -> Result<(), Stopped> {
+fn run(rt: &HostRuntime) -> Result<(), Stopped> {
     let mut bytes = [0; MAX_BYTES];
     let count = read_input(&mut rt.stdin(), &mut bytes)?;
     let mut text = [0; MAX_TEXT];
@@ -66,5 +67,12 @@ fn main(rt: HostRuntime) -> Result<(), Stopped> {
             println!(rt; "{fault}")?;
             Err(Stopped::Refused)
         }
+    }
+}
+
+fn main(rt: HostRuntime) -> ExitCode {
+    match run(&rt) {
+        Ok(()) => ExitCode::SUCCESS,
+        Err(_) => ExitCode::FAILURE,
     }
 }

@@ -27,8 +27,8 @@ impl Cell {
         requires rest { length rest.now ≡ count + 1 }
         requires time { time < length inputs.now }
         requires history { count * length inputs.now ≤ length history.now }
-        ensures value { (d : L.Elem) → result ≡ applied (meaning library.old) self.now.operation (map (operand (heard_in count rest.now inputs.now history.now d time)) (taps_in self.now)) }
-        ensures same { meaning library.new ≡ meaning library.old }
+        ensures value { (d : L.Elem) → result ≡ applied (L.meaning library.old) self.now.operation (map (operand (heard_in count rest.now inputs.now history.now d time)) (taps_in self.now)) }
+        ensures same { L.meaning library.new ≡ L.meaning library.old }
     {
         let mut sum = library.first(self.operation);
         for tap in &self.taps[0..self.count] {
@@ -54,10 +54,10 @@ impl Plan {
         requires rest { length rest.now ≡ self.now.count + 1 }
         requires time { time < length inputs.now }
         requires history { self.now.count * length inputs.now ≤ length history.old }
-        ensures values { Advances self.now (meaning library.old) rest.now inputs.now history.old history.new time }
+        ensures values { Advances self.now (L.meaning library.old) rest.now inputs.now history.old history.new time }
         ensures long { length history.new ≡ length history.old }
         ensures past { drop (self.now.count * length inputs.now) history.new ≡ drop (self.now.count * length inputs.now) history.old }
-        ensures same { meaning library.new ≡ meaning library.old }
+        ensures same { L.meaning library.new ≡ L.meaning library.old }
     {
         for rank in 0..self.count {
             let cell = &self.cells[rank];

@@ -60,8 +60,8 @@ pub fn simulate<L: CellLibrary>(
     history: &mut [L::Elem],
     outputs: &mut [L::Elem],
 ) -> Result<(), Fault>
-    ensures values { Simulates bench.now.design.graph (meaning library.old) rest.now inputs.now history.old history.new outputs.old outputs.new result }
-    ensures same { meaning library.new ≡ meaning library.old }
+    ensures values { Simulates bench.now.design.graph (L.meaning library.old) rest.now inputs.now history.old history.new outputs.old outputs.new result }
+    ensures same { L.meaning library.new ≡ L.meaning library.old }
 {
     let design = bench.design();
     ask_lengths(

@@ -75,7 +75,7 @@ fn read_aloud(rt: &HostRuntime, words: &[u32]) -> anyhow::Result<Design> {
 /// Prints a refusal's line.
 fn refused(rt: &HostRuntime, fault: Fault) -> anyhow::Error {
     let _ = println!(rt; "{fault}");
-    "refused".into()
+    anyhow!("refused")
 }
 
 /// Writes the design and prints its words.
@@ -97,7 +97,7 @@ fn round_trip(rt: &HostRuntime, design: &Design) -> anyhow::Result<()> {
         return Err(anyhow!("more words than the buffer has"));
     };
     print_words(rt, written)?;
-    let same = written == &DESIGN_E;
+    let same = written == DESIGN_E.as_slice();
     println!(rt; "the words written are the words read: {same}")?;
     let mut copy = [0; 8];
     match rewrite(&DESIGN_E, &mut copy) {

@@ -1,6 +1,6 @@
 use Rattle.std.proofs.Common.{◌≤◌, rules}
 use Rattle.console.proofs.Within.{within}
-use Rattle.console.proofs.main.Goals as goal
+use Rattle.console.proofs.run.Goals as goal
 
 pub slice-bounds-write-all-end : goal.slice-bounds-write-all-end
 slice-bounds-write-all-end c =
