@@ -89,7 +89,7 @@ fn word_buffers_of_every_length(rt: HostRuntime) -> Result<(), Fail> {
     }
     let mut words = [7; 9];
     assert_eq!(rt; write_design(&design, &mut words[0..8])?, 8);
-    assert!(rt; &words[0..8] == &DESIGN_E);
+    assert!(rt; &words[0..8] == DESIGN_E.as_slice());
     assert_eq!(rt; words[8], 7);
     Ok(())
 }
@@ -145,7 +145,7 @@ fn each_question_refuses(rt: HostRuntime) {
 #[test]
 fn left_over_bytes_refuse(rt: HostRuntime) -> Result<(), Fail> {
     let input = InputWords::from_bytes(b"\x10\x00\x00\x01")?;
-    assert!(rt; input.as_slice() == [0x10000001]);
+    assert!(rt; input.as_slice() == [0x10000001].as_slice());
     match InputWords::from_bytes(b"\x10\x00\x00\x01\x20") {
         Ok(_) => Err(Fail::new("accepted")),
         Err(fault) => {
