@@ -12,7 +12,7 @@ use Rattle.bench.proofs.bench.Bench.lag.Goals as goal
 pub returns-then-shifts-count : goal.returns-then-shifts-count
 returns-then-shifts-count c =
     let h =
-    lag_row c.args.self.now.design.graph c.args.self.now.retiming c.args.shifts.now (λ e. c.if-shifts-count.true (e ∙ sym c.count-count.ensures)) in
+    lag_row c.args.self.now.design.graph c.args.self.now.retiming c.args.shifts.now (λ e. omega (arith, e, c.if-shifts-count.true, c.count-count.ensures)) in
     record {
       answer = ap Err (c.refusal.ensures ∙ ap (wrong_row (length c.args.shifts.now)) c.count-count.ensures) ∙ sym (ap (λ o. unless o tt) h);
       design = refl;
@@ -23,7 +23,7 @@ pub returns-in-Some : goal.returns-in-Some
 returns-in-Some c =
     let shifts : List ℤ = c.args.shifts.now in
     let h =
-    lag_shifts c.args.self.now.design.graph c.args.self.now.retiming shifts (c.if-shifts-count.false ∙ c.count-count.ensures)
+    lag_shifts c.args.self.now.design.graph c.args.self.now.retiming shifts (omega (arith, c.if-shifts-count.false, c.count-count.ensures))
     ∙ some_or (shifts_fault shifts) _ _ (shifts_some shifts c.in-Some.index (sym c.in-Some.ensures)) in
     record { answer = ap Err c.refusal-in-Some.ensures ∙ sym (ap (λ o. unless o tt) h); design = refl; retiming = kept _ _ _ c.args.self.now.retiming h }
 
@@ -37,7 +37,7 @@ returns c =
     let g : Graph = c.args.self.now.design.graph in
     let p : Retiming = c.args.self.now.retiming in
     let shifts : List ℤ = c.args.shifts.now in
-    let h = lag_made g p shifts (c.if-shifts-count.false ∙ c.count-count.ensures) (shifts_none shifts (sym c.in_default.ensures)) (sound g p c.args.self.now.sound).slow in
+    let h = lag_made g p shifts (omega (arith, c.if-shifts-count.false, c.count-count.ensures)) (shifts_none shifts (sym c.in_default.ensures)) (sound g p c.args.self.now.sound).slow in
     record {
       answer = c.make_move.ensures.answer ∙ ap (λ o. unless o tt) (sym h);
       design = c.make_move.ensures.design;
