@@ -5,7 +5,7 @@ use Rattle.std.proofs.lemmas.Bool.{cases_lt, cases_eq, cond-true, cond-false, lt
 use Rattle.words.specs.declared.graph.Graph.{Graph}
 use Rattle.words.specs.Designs.{InRange}
 use Rattle.bench.specs.declared.retiming.Retiming.{Retiming}
-use Rattle.bench.specs.Programs.{in_turn, greater, output_reach, reach, line_length, Reaches, taps}
+use Rattle.bench.specs.Programs.{in_turn, greater, output_reach, reach, line_length, Reaches}
 use Rattle.bench.specs.Retimings.{Sound, current_delay, output_delay, max_delay}
 use Rattle.bench.proofs.Settled.{fed}
 use Rattle.bench.proofs.Soundness.{feed_inside}

@@ -1,5 +1,5 @@
 -- A settled bench is systolic.
-use Rattle.std.proofs.Common.{◌≡◌, ℕ, ◌+◌, ◌-◌, ◌*◌, ◌<◌, ◌≤◌, ◌⊎◌, get_or, pos, ◌+ℤ◌, is_some, Some, None, Option, sym, refl, ap, ◌∙◌, ⊎_elim, mul_assoc, mul_comm, add-mul, one-mul, arith}
+use Rattle.std.proofs.Common.{◌≡◌, ℕ, ◌+◌, ◌*◌, ◌<◌, ◌≤◌, get_or, pos, ◌+ℤ◌, is_some, Some, None, Option, sym, refl, ap, ◌∙◌, ⊎_elim, mul_assoc, mul_comm, add-mul, one-mul, arith}
 use Rattle.std.specs.Option.{option_map}
 use Rattle.std.proofs.lemmas.Nat.{mul-le}
 use Rattle.std.proofs.lemmas.List.FromFn.{get_or-map-range_with_len}

@@ -1,4 +1,5 @@
 //! The bench: a design slowed, lagged and settled; writing designs and listing words.
+#![tactic(auto)]
 
 pub mod bench;
 pub mod calls;

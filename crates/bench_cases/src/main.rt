@@ -1,4 +1,5 @@
 //! Reads designs with moves, one case a line, and prints for each what its bench answers and how it stands at the end.
+#![tactic(auto)]
 
 use anyhow::anyhow;
 use bench::bench::Bench;

@@ -1,4 +1,5 @@
 //! Cell libraries: what the cells of an array compute, behind one trait. Whole, float and compare cells, and a layer that lets elements be absent.
+#![tactic(auto)]
 
 pub mod apply;
 pub mod bubble;

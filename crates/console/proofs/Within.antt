@@ -1,10 +1,9 @@
 -- What is listed lies within the buffer.
-use Rattle.std.proofs.Common.{◌≡◌, ℕ, ◌%◌, ◌≤◌, List, length, is_ok, Some, None, Ok, Option, sym, refl, ap, ◌∙◌, ⊎_elim}
+use Rattle.std.proofs.Common.{◌≡◌, ℕ, ◌%◌, ◌≤◌, List, length, is_ok, Some, None, Ok, Option, refl, ap, ⊎_elim}
 use Rattle.std.proofs.lemmas.Bool.{true≢false, cases_eq}
 use Rattle.words.specs.declared.faults.Fault.{Fault}
 use Rattle.words.specs.Bytes.{taken, packed}
 use Rattle.words.specs.Questions.{refused}
-use Rattle.bench.specs.Buffers.{Written}
 use Rattle.bench.proofs.Overlays.{written_count}
 use Rattle.console.specs.Answer.{Answered}
 

@@ -1,4 +1,5 @@
 //! The console: a design in on standard input, its words out, one a line, or one refusal line.
+#![tactic(auto)]
 
 ghost use Rattle.std.specs.Prelude.{◌≤◌, length, IfOk};
 ghost use Rattle.console.specs.Answer.{Answered};

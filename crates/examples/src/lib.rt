@@ -1,4 +1,5 @@
 //! The worked designs, and the cells of design E.
+#![tactic(auto)]
 
 pub mod designs;
 pub mod libraries;

@@ -1,4 +1,5 @@
 //! The machine. Its first part: the simulator of a source design.
+#![tactic(auto)]
 
 mod firing;
 mod history;

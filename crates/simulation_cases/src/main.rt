@@ -1,4 +1,5 @@
 //! Reads designs with cells, rests and inputs, one case a line, and prints for each what its simulation gives.
+#![tactic(auto)]
 
 mod element;
 mod opening;

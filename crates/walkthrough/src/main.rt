@@ -1,4 +1,5 @@
 //! Design E, from its words to a design and back, settled on the bench and emitted: each action, and its answer.
+#![tactic(auto)]
 
 use anyhow::anyhow;
 use bench::bench::Bench;

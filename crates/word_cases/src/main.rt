@@ -1,4 +1,5 @@
 //! Reads inputs as lines of hexadecimal bytes, and prints for each its design's words, or its refusal.
+#![tactic(auto)]
 
 use anyhow::anyhow;
 use bench::listing::list_design;

@@ -1,5 +1,5 @@
 -- What the questions answer at a word whose kind is known.
-use Rattle.std.proofs.Common.{◌≡◌, ℕ, Bool, true, false, cond, ◌&&◌, eqb, List, length, Some, None, sym, refl, ap, ◌∙◌}
+use Rattle.std.proofs.Common.{◌≡◌, ℕ, true, false, ◌&&◌, eqb, List, length, Some, None, ap, ◌∙◌}
 use Rattle.std.proofs.lemmas.Bool.{cond-true, cond-false}
 use Rattle.words.specs.declared.kinds.Kind.{Kind}
 use Rattle.words.specs.Kinds.{kind_of, unnamed}

@@ -1,7 +1,7 @@
 -- A draft with one word more is sound, and is the draft of the words with that word.
-use Rattle.std.proofs.Common.{◌≡◌, ℕ, zero, suc, ◌+◌, ◌-◌, ◌<◌, ◌≤◌, Bool, true, false, cond, List, [], ◌∷◌, ◌++◌, length, get_or, take, drop, set, Some, None, Option, sym, refl, ap, ◌∙◌, subst, ⊎_elim, append_assoc, add-zero, zero-add, arith}
-use Rattle.std.proofs.lemmas.List.{get_or-set_same, get_or-set_other, length-set, length-take-le, take_more, take_more_set, append-nil}
-use Rattle.std.proofs.lemmas.Bool.{cases_lt, cases_eq, both_ways, true≢false}
+use Rattle.std.proofs.Common.{◌≡◌, ℕ, suc, ◌+◌, ◌-◌, ◌<◌, ◌≤◌, true, false, List, [], ◌∷◌, ◌++◌, length, get_or, take, set, Some, None, Option, sym, ap, ◌∙◌, subst, ⊎_elim, append_assoc, zero-add, arith}
+use Rattle.std.proofs.lemmas.List.{get_or-set_same, get_or-set_other, length-set, length-take-le, take_more, take_more_set}
+use Rattle.std.proofs.lemmas.Bool.{cases_eq, both_ways, true≢false}
 use Rattle.words.specs.declared.graph.Node.{Node}
 use Rattle.words.specs.declared.graph.Output.{Output}
 use Rattle.words.specs.declared.graph.Graph.{Graph}
@@ -9,9 +9,9 @@ use Rattle.words.specs.declared.draft.Draft.{Draft}
 use Rattle.words.specs.declared.kinds.Kind.TheVariants as kind
 use Rattle.words.specs.Fields.{field}
 use Rattle.words.specs.Kinds.{kind_of}
-use Rattle.words.specs.Designs.{NodeInRange, InRange, blank, absent, node_at, feed_at, sources, max_nodes, byte, is_source}
+use Rattle.words.specs.Designs.{NodeInRange, blank, absent, node_at, feed_at, sources, byte, is_source}
 use Rattle.words.specs.Encoding.{head_word, node_word, feed_word, output_word, feed_words, node_words}
-use Rattle.words.specs.Drafts.{drafted, Sound, Stands, with_node, node_read, feed_read, output_read}
+use Rattle.words.specs.Drafts.{drafted, Sound, Stands, node_read, feed_read, output_read}
 use Rattle.words.proofs.Standing.{stands_node, stands_feed, stands_output}
 use Rattle.words.proofs.Drafting.{blank_none, blank_feeds, nodes_push, feeds_set, at_same, at_other, in_range_with, open_words}
 

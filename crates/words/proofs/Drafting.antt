@@ -1,15 +1,14 @@
 -- The draft of one word more.
-use Rattle.std.proofs.Common.{◌≡◌, ℕ, zero, suc, ◌+◌, ◌-◌, ◌<◌, ◌≤◌, Bool, true, false, cond, List, [], ◌∷◌, ◌++◌, length, get_or, take, drop, set, replicate, is_some, Some, None, Option, sym, refl, ap, ◌∙◌, subst, ⊎_elim, append_assoc, add-zero, add-suc, suc-add, zero-add, add-one, arith}
-use Rattle.std.proofs.lemmas.List.{get_or-set_same, get_or-set_other, get_or_past, get_or-replicate, length-set, length-take-le, take_more, take_more_set, append-nil}
-use Rattle.std.proofs.lemmas.Bool.{cases_lt, cases_eq, true≢false, both_ways, cases_Bool}
+use Rattle.std.proofs.Common.{◌≡◌, ℕ, zero, suc, ◌+◌, ◌<◌, ◌≤◌, true, false, cond, List, [], ◌∷◌, ◌++◌, length, get_or, take, set, is_some, Some, None, Option, sym, refl, ap, ◌∙◌, subst, ⊎_elim, add-zero, add-suc, suc-add, arith}
+use Rattle.std.proofs.lemmas.List.{get_or-set_same, get_or-set_other, get_or_past, get_or-replicate, length-set, append-nil}
+use Rattle.std.proofs.lemmas.Bool.{cases_lt, cases_eq, true≢false, cases_Bool}
 use Rattle.words.specs.declared.graph.Node.{Node}
-use Rattle.words.specs.declared.graph.Output.{Output}
 use Rattle.words.specs.declared.graph.Graph.{Graph}
 use Rattle.words.specs.declared.draft.Draft.{Draft}
-use Rattle.words.specs.Designs.{NodeInRange, InRange, blank, absent, node_at, feed_at, sources, max_nodes, byte, is_source}
+use Rattle.words.specs.Designs.{NodeInRange, InRange, blank, absent, node_at, sources}
 use Rattle.words.specs.Encoding.{head_word, node_word, feed_word, output_word, feed_words, node_words}
 use Rattle.words.proofs.Encodings.{nodes_join}
-use Rattle.words.specs.Drafts.{drafted, Sound, Stands, with_node, node_read, feed_read, output_read}
+use Rattle.words.specs.Drafts.{drafted, Sound, with_node}
 
 -- a blank node has no feed words
 pub blank_none : (k : ℕ) → get_or blank.feeds k None ≡ None

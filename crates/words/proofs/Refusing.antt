@@ -1,20 +1,18 @@
 -- The reader's ways out: a refusal at a word, at the words' end, and the design.
-use Rattle.std.proofs.Common.{◌≡◌, ℕ, zero, suc, ◌+◌, ◌-◌, ◌^◌, ◌<◌, ◌≤◌, Bool, true, false, cond, ◌&&◌, eqb, ltb, leb, ◌⊎◌, List, [], ◌∷◌, ◌++◌, length, get_or, take, drop, replicate, is_some, Some, None, Ok, Err, Option, Result, sym, refl, ap, ◌∙◌, subst, inl, inr, arith, MatchResult}
-use Rattle.std.proofs.lemmas.List.{append-nil, take_all, take_more, drop_more, drop_all, length-drop, length-take-le, length-replicate, get_or-replicate, nil_from_length}
+use Rattle.std.proofs.Common.{◌≡◌, ℕ, ◌+◌, ◌-◌, ◌^◌, ◌<◌, ◌≤◌, Bool, true, false, cond, ◌&&◌, eqb, leb, ◌⊎◌, List, [], ◌∷◌, ◌++◌, length, get_or, take, drop, is_some, Some, None, Ok, Err, Option, Result, sym, refl, ap, ◌∙◌, subst, inl, inr, arith}
+use Rattle.std.proofs.lemmas.List.{take_all, take_more, drop_more, drop_all, length-drop, length-take-le, length-replicate, get_or-replicate}
 use Rattle.std.proofs.lemmas.Bool.{true≢false, false≢true, and_from, eq-eqb, le-leb}
 use Rattle.words.specs.declared.faults.Fault.{Fault}
-use Rattle.words.specs.declared.graph.Node.{Node}
-use Rattle.words.specs.declared.graph.Graph.{Graph}
 use Rattle.words.specs.declared.design.Design.{Design}
 use Rattle.words.specs.declared.draft.Draft.{Draft}
 use Rattle.words.specs.declared.kinds.Kind.{Kind}
 use Rattle.words.specs.declared.kinds.Kind.TheVariants as kind
 use Rattle.words.specs.Fields.{field}
 use Rattle.words.specs.Kinds.{kind_of, kind_numbered, named_bits, unnamed, is_end}
-use Rattle.words.specs.Designs.{NodeInRange, InRange, blank, absent, node_at, sources, max_nodes, byte, is_source}
-use Rattle.words.specs.Encoding.{head_word, output_word, end_word, feed_words, node_words, body, encoded}
-use Rattle.words.specs.Questions.{asked, asked_of, may_stand, fields_in_range, in_order, ends_well, count_of, nodes_in, in_node, after_output, refused_from, refused, or_else}
-use Rattle.words.specs.Refusals.{words_fault, no_word, misplaced, out_of_range, out_of_order, wrong_end}
+use Rattle.words.specs.Designs.{NodeInRange, InRange, blank, absent, max_nodes}
+use Rattle.words.specs.Encoding.{head_word, output_word, end_word, node_words, body, encoded}
+use Rattle.words.specs.Questions.{asked, may_stand, fields_in_range, in_order, ends_well, count_of, nodes_in, in_node, after_output, refused_from, refused, or_else}
+use Rattle.words.specs.Refusals.{no_word, misplaced, out_of_range, out_of_order, wrong_end}
 use Rattle.words.specs.Drafts.{drafted, Sound, Stands, headed, Ended}
 use Rattle.words.specs.Reading.{Begins, StopsAt, Refuses, Reads, ReadsBack, place_of}
 use Rattle.words.proofs.Wholes.{whole_one, kind_found}

@@ -1,22 +1,20 @@
 -- Where reading stops, no design goes on.
-use Rattle.std.proofs.Common.{◌≡◌, ℕ, zero, suc, ◌+◌, ◌-◌, ◌<◌, ◌≤◌, Bool, true, false, cond, ◌&&◌, eqb, ◌⊎◌, List, [], ◌∷◌, ◌++◌, length, get_or, take, drop, replicate, is_some, Some, None, Option, sym, refl, ap, ◌∙◌, subst, inl, inr, ⊎_elim, append_assoc, add-zero, add-suc, suc-add, arith}
-use Rattle.std.proofs.lemmas.List.{append-nil, length-append, length-drop, take_more, take_all, take-take, take-append-drop, nil_from_length, get_or-replicate}
-use Rattle.std.proofs.lemmas.Bool.{true≢false, both_ways, cases_Bool, and_parts, and_from, eqb-true, eq-eqb, cases_lt, cond-true}
+use Rattle.std.proofs.Common.{◌≡◌, ℕ, ◌+◌, ◌<◌, ◌≤◌, Bool, true, false, cond, ◌&&◌, eqb, List, [], ◌∷◌, ◌++◌, length, get_or, take, drop, is_some, Some, None, Option, sym, refl, ap, ◌∙◌, subst, inl, inr, ⊎_elim, append_assoc, arith}
+use Rattle.std.proofs.lemmas.List.{append-nil, length-append, length-drop, take_more, take_all, take-take, take-append-drop, nil_from_length}
+use Rattle.std.proofs.lemmas.Bool.{true≢false, cases_Bool, and_parts, eqb-true, cases_lt}
 use Rattle.words.specs.declared.faults.Fault.{Fault}
 use Rattle.words.specs.declared.graph.Node.{Node}
-use Rattle.words.specs.declared.graph.Graph.{Graph}
 use Rattle.words.specs.declared.draft.Draft.{Draft}
 use Rattle.words.specs.declared.kinds.Kind.{Kind}
 use Rattle.words.specs.declared.kinds.Kind.TheVariants as kind
 use Rattle.words.specs.Kinds.{kind_of, unnamed, is_end}
 use Rattle.words.specs.Fields.{field}
 use Rattle.words.specs.Refusals.{misplaced, out_of_range, wrong_end}
-use Rattle.words.specs.Designs.{NodeInRange, InRange, blank, node_at, max_nodes}
-use Rattle.words.specs.Encoding.{head_word, node_word, output_word, end_word, feed_words, node_words, body, encoded}
-use Rattle.words.specs.Questions.{asked, asked_of, may_stand, fields_in_range, count_of, ends_well, refused_from, refused, or_else}
+use Rattle.words.specs.Encoding.{head_word, output_word, end_word, node_words, body, encoded}
+use Rattle.words.specs.Questions.{asked, asked_of, may_stand, fields_in_range, count_of, ends_well, refused_from, or_else}
 use Rattle.words.specs.Drafts.{drafted, Sound}
 use Rattle.words.specs.Reading.{Begins, StopsAt}
-use Rattle.words.proofs.Drafting.{open_words, blank_none}
+use Rattle.words.proofs.Drafting.{open_words}
 use Rattle.words.proofs.Encodings.{nodes_join}
 use Rattle.words.proofs.Walking.{encoded_passes}
 

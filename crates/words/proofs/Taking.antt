@@ -1,5 +1,5 @@
 -- The questions at a word, as the reader puts them to its draft.
-use Rattle.std.proofs.Common.{◌≡◌, ℕ, ◌-◌, ◌<◌, ◌≤◌, Bool, true, false, cond, not, ◌&&◌, eqb, ltb, leb, List, length, Some, None, sym, refl, ap, ◌∙◌, arith}
+use Rattle.std.proofs.Common.{◌≡◌, ℕ, ◌-◌, Bool, true, false, not, ◌&&◌, eqb, ltb, leb, List, length, Some, None, sym, refl, ap, ◌∙◌, arith}
 use Rattle.std.proofs.lemmas.Bool.{ne_eqb}
 use Rattle.words.specs.declared.kinds.Kind.{Kind}
 use Rattle.words.specs.declared.kinds.Kind.TheVariants as kind
@@ -7,7 +7,7 @@ use Rattle.words.specs.declared.draft.Draft.{Draft}
 use Rattle.words.specs.declared.faults.Fault.{Fault}
 use Rattle.words.specs.Fields.{field}
 use Rattle.words.specs.Kinds.{kind_of, named_bits, unnamed}
-use Rattle.words.specs.Questions.{asked, may_stand, fields_in_range, in_order, ends_well, count_of, nodes_in, in_node, least_source, after_output}
+use Rattle.words.specs.Questions.{asked, may_stand, fields_in_range, in_order, ends_well, count_of, nodes_in}
 use Rattle.words.specs.Refusals.{words_fault}
 use Rattle.words.specs.Drafts.{drafted, Sound}
 use Rattle.words.proofs.Asking.{refuse_2, refuse_3, refuse_4, refuse_5, allow}

@@ -1,16 +1,15 @@
 -- Two designs in range with the same words are the same design.
-use Rattle.std.proofs.Common.{◌≡◌, ℕ, zero, suc, ◌+◌, ◌-◌, ◌*◌, ◌^◌, ◌<◌, ◌≤◌, Bool, true, false, List, [], ◌∷◌, ◌++◌, length, get_or, take, drop, Some, None, Option, sym, refl, ap, ◌∙◌, subst, ap₂, ⊎_elim, append_assoc, arith}
+use Rattle.std.proofs.Common.{◌≡◌, ℕ, suc, ◌+◌, ◌*◌, ◌^◌, ◌<◌, ◌≤◌, true, false, List, [], ◌∷◌, ◌++◌, length, get_or, take, drop, Some, None, Option, sym, refl, ap, ◌∙◌, subst, ap₂, ⊎_elim, append_assoc, arith}
 use Rattle.std.specs.List.{AllByRecursion as All}
 use Rattle.std.proofs.lemmas.List.{length-take-le, get_or-take, ext_get_or}
 use Rattle.std.proofs.lemmas.Bool.{cases_lt, both_ways}
 use Rattle.words.specs.declared.graph.Node.{Node}
-use Rattle.words.specs.declared.graph.Output.{Output}
 use Rattle.words.specs.declared.graph.Graph.{Graph}
 use Rattle.words.specs.declared.kinds.Kind.TheVariants as kind
-use Rattle.words.specs.Fields.{field, word_of}
+use Rattle.words.specs.Fields.{field}
 use Rattle.words.specs.Kinds.{kind_of, is_feed}
-use Rattle.words.specs.Designs.{NodeInRange, InRange, absent, node_at, sources, max_nodes, byte}
-use Rattle.words.specs.Encoding.{head_word, node_word, feed_word, output_word, end_word, feed_words, node_words, body, encoded}
+use Rattle.words.specs.Designs.{NodeInRange, InRange, absent, max_nodes, byte}
+use Rattle.words.specs.Encoding.{feed_word, output_word, end_word, feed_words, node_words, body, encoded}
 use Rattle.words.proofs.Wholes.{kind_made, low_field, high_field}
 use Rattle.words.proofs.Encodings.{nodes_in_range}
 

@@ -1,19 +1,18 @@
 -- Every word of a design's encoding passes the questions.
-use Rattle.std.proofs.Common.{◌≡◌, ℕ, zero, suc, ◌+◌, ◌-◌, ◌*◌, ◌^◌, ◌<◌, ◌≤◌, Bool, true, false, cond, not, ◌&&◌, ◌||◌, eqb, ltb, leb, List, [], ◌∷◌, ◌++◌, length, get_or, take, Some, None, Option, sym, refl, ap, ◌∙◌, subst, ⊎_elim, append_assoc, add-zero, add-suc, suc-add, zero-add, add-one, arith}
+use Rattle.std.proofs.Common.{◌≡◌, ℕ, suc, ◌+◌, ◌-◌, ◌*◌, ◌^◌, ◌<◌, ◌≤◌, true, false, cond, ◌&&◌, eqb, ltb, leb, List, [], ◌∷◌, ◌++◌, length, get_or, take, Some, None, Option, sym, refl, ap, ◌∙◌, subst, ⊎_elim, append_assoc, add-zero, add-suc, suc-add, zero-add, add-one, arith}
 use Rattle.std.specs.List.{AllByRecursion as All}
-use Rattle.std.proofs.ByRecursion.{All-from_get_or}
-use Rattle.std.proofs.lemmas.List.{append-nil, length-append, length_push, length-take-le, get_or-take}
+use Rattle.std.proofs.lemmas.List.{append-nil, length-take-le}
 use Rattle.std.proofs.lemmas.Bool.{lt-ltb, le-leb, eq-eqb, and_from, ltb-true, eqb-true, or_cases}
 use Rattle.words.specs.declared.graph.Node.{Node}
 use Rattle.words.specs.declared.graph.Output.{Output}
 use Rattle.words.specs.declared.graph.Graph.{Graph}
 use Rattle.words.specs.declared.kinds.Kind.{Kind}
 use Rattle.words.specs.declared.kinds.Kind.TheVariants as kind
-use Rattle.words.specs.Fields.{field, word_of}
-use Rattle.words.specs.Kinds.{kind_of, named_bits, unnamed, number_of, is_end}
-use Rattle.words.specs.Designs.{NodeInRange, InRange, absent, node_at, is_source, sources, max_nodes, input, byte}
+use Rattle.words.specs.Fields.{field}
+use Rattle.words.specs.Kinds.{kind_of, named_bits, unnamed, is_end}
+use Rattle.words.specs.Designs.{NodeInRange, InRange, is_source, sources, max_nodes, input, byte}
 use Rattle.words.specs.Encoding.{head_word, node_word, feed_word, output_word, end_word, feed_words, node_words, body, encoded}
-use Rattle.words.specs.Questions.{asked, refused_from, refused, or_else, count_of, nodes_in, in_node, after_output, least_source}
+use Rattle.words.specs.Questions.{asked, refused_from, refused, or_else, count_of}
 use Rattle.words.specs.Drafts.{Stands}
 use Rattle.words.proofs.Wholes.{kind_made, low_field, clear_field, low_only, clear_only}
 use Rattle.words.proofs.Standing.{stands_head, stands_node, stands_feed, stands_output}

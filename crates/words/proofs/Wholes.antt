@@ -1,5 +1,5 @@
 -- A word is made of its kind and its fields, and falls into them again.
-use Rattle.std.proofs.Common.{◌≡◌, ℕ, zero, ◌+◌, ◌*◌, ◌/◌, ◌%◌, ◌^◌, ◌<◌, Bool, true, false, cond, eqb, sym, refl, ap, ◌∙◌, subst, ⊎_elim, add-zero, add_assoc, mod-eq_of_lt, mul_assoc, add-mul, zero-add, zero-mul, div-one, arith}
+use Rattle.std.proofs.Common.{◌≡◌, ℕ, ◌+◌, ◌*◌, ◌/◌, ◌%◌, ◌^◌, ◌<◌, sym, refl, ap, ◌∙◌, add-zero, add_assoc, mod-eq_of_lt, mul_assoc, add-mul, zero-add, zero-mul, div-one, arith}
 use native.Mathlib.Nat.{mod-one}
 use Rattle.std.proofs.lemmas.Nat.{shr-shr, shr_below, shr_split, shr_high, mod_low, pow-add, pow_pos}
 use Rattle.std.proofs.lemmas.Bool.Decides.{nat_tests}

@@ -1,5 +1,5 @@
 -- What a design is: nodes with an operation and feeds, and an output. Its numbers and their ranges.
-use Rattle.std.specs.Prelude.{◌≡◌, ℕ, ◌<◌, ◌≤◌, Bool, true, ◌||◌, List, [], length, replicate, Some, None, Option, ◌==◌, nat_lt, slice_index_or}
+use Rattle.std.specs.Prelude.{◌≡◌, ℕ, ◌<◌, ◌≤◌, Bool, true, ◌||◌, [], length, replicate, Some, None, Option, ◌==◌, nat_lt, slice_index_or}
 use Rattle.words.specs.declared.graph.Node.{Node}
 use Rattle.words.specs.declared.graph.Graph.{Graph}
 

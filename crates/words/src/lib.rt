@@ -1,4 +1,5 @@
 //! The word reader: refusals, designs, and reading them from 32-bit words.
+#![tactic(auto)]
 
 pub mod bytes;
 pub mod design;

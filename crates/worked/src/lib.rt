@@ -1,4 +1,5 @@
 //! The worked designs and refusals, as tests.
+#![tactic(auto)]
 
 #[cfg(test)]
 mod own_cells;

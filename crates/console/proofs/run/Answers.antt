@@ -1,4 +1,4 @@
-use Rattle.std.proofs.Common.{◌≤◌, rules}
+use Rattle.std.proofs.Common.{rules}
 use Rattle.console.proofs.Within.{within}
 use Rattle.console.proofs.run.Goals as goal
 

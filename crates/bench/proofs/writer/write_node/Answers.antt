@@ -1,6 +1,6 @@
 use Rattle.std.proofs.Common.{◌≡◌, ℕ, ◌+◌, ◌<◌, List, [], ◌∷◌, ◌++◌, length, take, set, Option, sym, ap, ◌∙◌, ap₂, add-zero, arith, rules}
 use Rattle.std.proofs.lemmas.List.{length-set, length_push, take_all}
-use Rattle.words.specs.Encoding.{feed_word, feed_words, node_word}
+use Rattle.words.specs.Encoding.{feed_word, feed_words}
 use Rattle.bench.specs.Buffers.{overlaid}
 use Rattle.bench.proofs.Overlays.{overlaid_none, overlaid_one, overlaid_more, overlaid_join}
 use Rattle.bench.proofs.Writing.{row_some, row_none, row_room}

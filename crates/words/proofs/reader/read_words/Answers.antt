@@ -1,10 +1,8 @@
-use Rattle.std.proofs.Common.{◌≡◌, ℕ, ◌+◌, ◌<◌, List, [], ◌∷◌, ◌++◌, length, get_or, take, drop, Some, None, Err, sym, refl, ap, ◌∙◌, subst, arith}
+use Rattle.std.proofs.Common.{ℕ, ◌+◌, ◌<◌, List, [], ◌∷◌, ◌++◌, length, get_or, drop, sym, refl, ap, ◌∙◌, subst, arith}
 use Rattle.std.proofs.lemmas.List.{take_more}
 use Rattle.std.proofs.lemmas.Result.{err_from_is_err_and}
-use Rattle.words.specs.declared.draft.Draft.{Draft}
 use Rattle.words.specs.Questions.{asked}
-use Rattle.words.specs.Reading.{Reads, Begins}
-use Rattle.words.specs.Refusals.{words_fault}
+use Rattle.words.specs.Reading.{Begins}
 use Rattle.words.proofs.Stopping.{begins}
 use Rattle.words.proofs.Refusing.{ended_reads, refused_here, refused_short, walked_on, not_end}
 use Rattle.words.proofs.reader.read_words.Goals as goal

@@ -1,4 +1,4 @@
-use Rattle.std.proofs.Common.{◌≡◌, length, take, drop}
+use Rattle.std.proofs.Common.{◌≡◌, take, drop}
 use Rattle.words.specs.Questions.{refused_from, refused}
 use Rattle.words.specs.Drafts.{drafted, Sound}
 use Rattle.words.proofs.reader.read_words.Given as goal

@@ -1,4 +1,4 @@
-use Rattle.std.proofs.Common.{◌≡◌, ◌-◌, ◌≤◌, length, get_or, take, ℤ, pos, negsuc, ◌≤ℤ◌, is_ok, Some, None, Ok, Option, sym, ap, ◌∙◌, subst, ap₂, arith}
+use Rattle.std.proofs.Common.{◌≡◌, ◌-◌, ◌≤◌, length, get_or, take, pos, negsuc, ◌≤ℤ◌, is_ok, Some, None, Ok, Option, sym, ap, ◌∙◌, subst, ap₂, arith}
 use Rattle.std.proofs.lemmas.Bool.{false≢true}
 use Rattle.words.specs.declared.design.Design.{Design}
 use Rattle.words.specs.declared.faults.Fault.{Fault}

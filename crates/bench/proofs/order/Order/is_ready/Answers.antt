@@ -1,7 +1,7 @@
 use Rattle.std.proofs.Common.{◌≡◌, ℕ, Bool, true, false, cond, not, is_some, Some, None, Option, sym, refl, ap, ◌∙◌, arith}
 use Rattle.std.proofs.lemmas.Bool.{cond-true, cond-false, true≢false, false≢true}
 use Rattle.words.proofs.Ranges.{ranges}
-use Rattle.bench.specs.Firing.{held_by, free}
+use Rattle.bench.specs.Firing.{free}
 use Rattle.bench.proofs.Ordered.{has_rank}
 use Rattle.bench.proofs.order.Order.is_ready.Goals as goal
 

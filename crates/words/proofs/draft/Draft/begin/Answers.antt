@@ -1,10 +1,9 @@
 use Rattle.std.proofs.Common.{◌≡◌, ℕ, ◌^◌, ◌<◌, ◌≤◌, ◌&&◌, eqb, leb, List, [], ◌∷◌, length, get_or, take, drop, Some, sym, refl, ap, ◌∙◌, subst, arith}
 use Rattle.std.proofs.lemmas.List.{drop_more, take_more}
 use Rattle.std.proofs.lemmas.Bool.{and_left, and_right, lt-leb, eqb-true}
-use Rattle.words.specs.declared.draft.Draft.{Draft}
 use Rattle.words.specs.Fields.{field}
 use Rattle.words.specs.Designs.{max_nodes}
-use Rattle.words.specs.Questions.{refused_from, refused}
+use Rattle.words.specs.Questions.{refused_from}
 use Rattle.words.specs.Refusals.{words_fault}
 use Rattle.words.specs.Drafts.{drafted, Sound, headed}
 use Rattle.words.proofs.Refusing.{refused_here, refused_short, begins_none, first_2, first_3, head_drafted, head_passed, head_sound}

@@ -1,10 +1,9 @@
-use Rattle.std.proofs.Common.{◌≡◌, ℕ, ◌+◌, ◌^◌, ◌<◌, true, false, length, sym, refl, ap, ◌∙◌, arith}
+use Rattle.std.proofs.Common.{◌≡◌, ◌+◌, length, sym, refl, ap, ◌∙◌, arith}
 use Rattle.std.proofs.lemmas.List.{length_push}
 use Rattle.std.proofs.lemmas.Bool.{and_left, and_right, and_from, ne_eqb, eqb-true}
 use Rattle.words.specs.declared.kinds.Kind.TheVariants as kind
 use Rattle.words.specs.Fields.{field}
 use Rattle.words.specs.Drafts.{drafted}
-use Rattle.words.specs.Encoding.{encoded}
 use Rattle.words.proofs.Taking.{no_2, no_3, no_5}
 use Rattle.words.proofs.Refusing.{end_asked, end_encoded}
 use Rattle.words.proofs.draft.Draft.end.Goals as goal

@@ -1,10 +1,10 @@
-use Rattle.std.proofs.Common.{◌≡◌, ℕ, ◌<◌, ◌≤◌, true, false, sym, ap, ◌∙◌, subst, subst₂, arith}
+use Rattle.std.proofs.Common.{sym, ap, ◌∙◌, subst₂, arith}
 use Rattle.std.proofs.lemmas.Bool.{le-ltb, lt-ltb, lt-leb, and_left, and_right, and_from, not_from_true, not_from_false, eqb-true}
 use Rattle.words.specs.declared.kinds.Kind.TheVariants as kind
 use Rattle.words.specs.Fields.{field}
 use Rattle.words.specs.Designs.{is_source}
 use Rattle.words.specs.Drafts.{feed_read}
-use Rattle.words.proofs.Taking.{no_2, no_3, no_4, stands_of}
+use Rattle.words.proofs.Taking.{no_2, no_3, no_4}
 use Rattle.words.proofs.Takes.{feed_adds, Adds}
 use Rattle.words.proofs.draft.Draft.feed.Goals as goal
 use Rattle.words.proofs.draft.Draft.feed.Goals.{then-self-eq0-via-then-self-eq0, then-self-eq0-via-else-self-eq0+then-self, then-not-is_clear-via-then-not-is_clear, then-not-is_clear-via-else-not-is_clear+then-not-has_source}

@@ -1,4 +1,4 @@
-use Rattle.std.proofs.Common.{◌≡◌, ℕ, ◌<◌, ◌≤◌, true, false, sym, ap, ◌∙◌, subst₂, arith}
+use Rattle.std.proofs.Common.{sym, ◌∙◌, subst₂, arith}
 use Rattle.std.proofs.lemmas.Bool.{le-ltb, lt-ltb, and_left, and_right, and_from, not_from_true, not_from_false, eq-eqb, ne_eqb, eqb-true}
 use Rattle.words.specs.declared.kinds.Kind.TheVariants as kind
 use Rattle.words.specs.Fields.{field}
