@@ -2,7 +2,7 @@
 
 ghost use Rattle.std.specs.Prelude.{◌≡◌, ◌+◌, ◌<◌, ◌≤◌, ◌∷◌, length};
 ghost use Rattle.words.specs.Encoding.{encoded, node_word, feed_words, node_words};
-ghost use Rattle.std.specs.List.{AllByRecursion as All};
+ghost use Rattle.std.specs.List.{AllByRecursion};
 ghost use Rattle.bench.specs.Buffers.{Written, overlaid};
 ghost use Rattle.bench.specs.Refusals.{too_short};
 
@@ -58,7 +58,7 @@ fn write_node(number: usize, node: &Node, words: &mut [u32], at: usize) -> usize
 /// Writes nodes, each with its feeds, from place `at` on, and answers the place after them.
 fn write_nodes(nodes: &[Node], words: &mut [u32], at: usize) -> usize
     requires few { length nodes.now ≤ 32 }
-    requires rows { All (λ node. length node.feeds ≡ 33) nodes.now }
+    requires rows { AllByRecursion (λ node. length node.feeds ≡ 33) nodes.now }
     requires room { at + length (node_words 0 nodes.now) ≤ length words.old }
     ensures next { result ≡ at + length (node_words 0 nodes.now) }
     ensures words { words.new ≡ overlaid words.old at (node_words 0 nodes.now) }

@@ -1,6 +1,6 @@
 -- The greatest or the least of a list, by a running choice.
 use Rattle.std.proofs.Common.{◌≡◌, ℕ, suc, ◌<◌, ◌≤◌, min, max, Bool, true, false, cond, ◌⊎◌, List, [], ◌∷◌, length, fold, sym, refl, ap, ◌∙◌, inl, inr, ⊎_elim, arith}
-use Rattle.std.specs.List.{AllByRecursion as All}
+use Rattle.std.specs.List.{AllByRecursion}
 use Rattle.std.proofs.lemmas.Bool.{cases_lt}
 use Rattle.cells.specs.Meaning.{Operand, applied}
 use Rattle.cells.specs.Choices.{is_even, greatest16, compare_meaning, Short, Among, Chosen}
@@ -42,7 +42,7 @@ chosen_on : Bool → ℕ → List (Operand ℕ) → ℕ
 chosen_on even a xs = fold (λ sum (x : Operand ℕ). pick even sum x.1) a xs
 
 run : (even : Bool) (a : ℕ) (xs : List (Operand ℕ)) →
-    Bounds even a (chosen_on even a xs) × All (λ x. Bounds even x.1 (chosen_on even a xs)) xs × ((chosen_on even a xs ≡ a) ⊎ Among xs (chosen_on even a xs))
+    Bounds even a (chosen_on even a xs) × AllByRecursion (λ x. Bounds even x.1 (chosen_on even a xs)) xs × ((chosen_on even a xs ≡ a) ⊎ Among xs (chosen_on even a xs))
 unfolding chosen_on
 run even a [] = (bound_same even a, tt, inl refl)
 run even a (x ∷ xs) =

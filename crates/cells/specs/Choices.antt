@@ -1,6 +1,6 @@
 -- Compare cells.
 use Rattle.std.specs.Prelude.{◌≡◌, ℕ, ◌%◌, ◌<◌, ◌≤◌, min, max, Bool, cond, ◌⊎◌, List, [], length, ◌==◌, slice_index_or}
-use Rattle.std.specs.List.{AllByRecursion as All}
+use Rattle.std.specs.List.{AllByRecursion}
 use Rattle.cells.specs.Meaning.{Meaning, Operand}
 
 -- even operations take the greatest operand, odd ones the least
@@ -20,7 +20,7 @@ compare_meaning = record {
 
 -- operands of 16 bits
 abbrev pub Short : List (Operand ℕ) → Type 0
-Short operands = All (λ x. x.1 ≤ greatest16) operands
+Short operands = AllByRecursion (λ x. x.1 ≤ greatest16) operands
 
 -- it is one of the operands
 abbrev pub Among : List (Operand ℕ) → ℕ → Type 0
@@ -30,4 +30,4 @@ Among operands v = (k : ℕ) × (k < length operands) × ((d : Operand ℕ) → 
 pub record Chosen (even : Bool) (operands : List (Operand ℕ)) (v : ℕ) : Type 0 where
   pub none : operands ≡ [] → v ≡ cond even 0 greatest16
   pub among : (operands ≡ []) ⊎ Among operands v
-  pub bounds : All (λ x. cond even (x.1 ≤ v) (v ≤ x.1)) operands
+  pub bounds : AllByRecursion (λ x. cond even (x.1 ≤ v) (v ≤ x.1)) operands

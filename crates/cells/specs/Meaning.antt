@@ -1,6 +1,6 @@
 -- What a cell library computes: three fixed functions.
 use Rattle.std.specs.Prelude.{ℕ, ◌≤◌, List, fold}
-use Rattle.std.specs.List.{AllByRecursion as All}
+use Rattle.std.specs.List.{AllByRecursion}
 
 pub record Meaning (E A : Type 0) : Type 0 where
   -- the first running sum, from the operation
@@ -24,4 +24,4 @@ applied m operation operands = m.element operation (gathered m operation operand
 
 -- each operand comes from a node or the input: sources 0 to 32
 abbrev pub Sourced : {E : Type 0} → List (Operand E) → Type 0
-Sourced operands = All (λ x. x.0 ≤ 32) operands
+Sourced operands = AllByRecursion (λ x. x.0 ≤ 32) operands

@@ -2,7 +2,7 @@
 use Rattle.std.proofs.Common.{◌≡◌, ℕ, zero, suc, ◌+◌, ◌-◌, ◌*◌, ◌<◌, ◌≤◌, true, false, ◌||◌, eqb, ltb, leb, List, [], ◌∷◌, map, Some, None, Option, sym, refl, ap, ◌∙◌, subst, ⊎_elim, mul-le-mul_right, mul_comm, arith}
 use native.Mathlib.Nat.{sub-zero}
 use native.Mathlib.Decide.{dec_le}
-use Rattle.std.specs.List.{AllByRecursion as All}
+use Rattle.std.specs.List.{AllByRecursion}
 use Rattle.std.proofs.lemmas.Bool.{cond-true, cond-false, le-leb, lt-leb, eq-eqb, ne_eqb, eqb-true, ltb-true, cases_Bool, cases_eq}
 use Rattle.std.proofs.ByRecursion.{All-append}
 use Rattle.words.specs.declared.graph.Graph.{Graph}
@@ -14,17 +14,17 @@ use Rattle.machine.specs.declared.tap.Tap.{Tap}
 use Rattle.machine.specs.Values.{past, given, heard, tap_if, taps_to, taps_of, operand, operands, Solves, SolvesBefore, Determined}
 
 -- all taps of a row, by their feeds
-pub taps_all : (P : Tap → Type 0) (row : ℕ → Option ℕ) (k : ℕ) → ((j a : ℕ) → j < k → row j ≡ Some a → P (record { source = j; delay = a })) → All P (taps_to row k)
+pub taps_all : (P : Tap → Type 0) (row : ℕ → Option ℕ) (k : ℕ) → ((j a : ℕ) → j < k → row j ≡ Some a → P (record { source = j; delay = a })) → AllByRecursion P (taps_to row k)
 unfolding taps_to
 taps_all P row zero h = tt
 taps_all P row (suc k) h = All-append P (taps_to row k) (tap_if k (row k)) (taps_all P row k (λ j a l e. h j a (omega arith) e)) (last (row k) refl)
   where
-    last : (o : Option ℕ) → row k ≡ o → All P (tap_if k o)
+    last : (o : Option ℕ) → row k ≡ o → AllByRecursion P (tap_if k o)
     last None e = tt
     last (Some a) e = (h k a (omega arith) e, tt)
 
 -- lists made alike
-pub map_alike : {X Y : Type 0} (f g : X → Y) (xs : List X) → All (λ x. f x ≡ g x) xs → map f xs ≡ map g xs
+pub map_alike : {X Y : Type 0} (f g : X → Y) (xs : List X) → AllByRecursion (λ x. f x ≡ g x) xs → map f xs ≡ map g xs
 map_alike f g [] h = refl
 map_alike f g (x ∷ xs) h = λ i. h.0 i ∷ map_alike f g xs h.1 i
 

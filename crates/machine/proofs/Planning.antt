@@ -1,6 +1,6 @@
 -- A plan of a design can fire.
 use Rattle.std.proofs.Common.{◌≡◌, ℕ, ◌<◌, true, List, get_or, sym, subst, arith}
-use Rattle.std.specs.List.{AllByRecursion as All}
+use Rattle.std.specs.List.{AllByRecursion}
 use Rattle.words.specs.declared.graph.Graph.{Graph}
 use Rattle.words.specs.Designs.{InRange, feed_at, is_source, sources}
 use Rattle.bench.specs.Orders.{Ranked}
@@ -19,7 +19,7 @@ module _ (g : Graph) (range : InRange g) (order : List ℕ) (ranked : Ranked g.c
         node = omega (arith, planned.node, li);
         table = planned.table;
         few = planned.few;
-        taps = subst (All (λ (tap : Tap). is_source g.count tap.source ≡ true)) (sym planned.taps)
+        taps = subst (AllByRecursion (λ (tap : Tap). is_source g.count tap.source ≡ true)) (sym planned.taps)
             (taps_all (λ (tap : Tap). is_source g.count tap.source ≡ true) (feed_at g i) sources (λ j a lj e. (range.nodes i (omega (arith, range.few))).heard j a e));
       }
 

@@ -1,6 +1,6 @@
 -- A design as the simulator fires it.
 use Rattle.std.specs.Prelude.{◌≡◌, ℕ, ◌<◌, ◌≤◌, true, List, length, take, slice_index, slice_index_or}
-use Rattle.std.specs.List.{AllByRecursion as All}
+use Rattle.std.specs.List.{AllByRecursion}
 use Rattle.words.specs.declared.graph.Graph.{Graph}
 use Rattle.words.specs.Designs.{node_at, is_source, sources, max_nodes}
 use Rattle.machine.specs.declared.tap.Tap.{Tap}
@@ -31,7 +31,7 @@ pub record Ready (n : ℕ) (cell : Cell) : Type 0 where
   pub node : cell.node < n
   pub table : length cell.taps ≡ sources
   pub few : cell.count ≤ sources
-  pub taps : All (λ tap. is_source n tap.source ≡ true) (taps_in cell)
+  pub taps : AllByRecursion (λ tap. is_source n tap.source ≡ true) (taps_in cell)
 
 -- a plan that can fire
 pub record Firable (plan : Plan) : Type 0 where

@@ -23,17 +23,17 @@ Advances {E} plan m rest inputs before after t =
     (d : E) (v : ℕ → ℕ → E) → Solves g m (rest_in g.count rest d) (input_in inputs d) v → Filled g.count order v before d t 0 → Filled g.count order v after d (t + 1) 0
 
 -- The history is written at the front of its row and solves the design, the outputs at the front of theirs, and the rest of both stays.
-pub record Simulated {E A : Type 0} (g : Graph) (m : Meaning E A) (rest inputs before after outputs-before outputs-after : List E) : Type 0 where
+pub record Simulated {E A : Type 0} (g : Graph) (m : Meaning E A) (rest inputs before after outputs_before outputs_after : List E) : Type 0 where
   pub solves : (d : E) → SolvesBefore (length inputs) g m (rest_in g.count rest d) (input_in inputs d) (value_in g.count after d)
-  pub outputs : (d : E) (t : ℕ) → t < length inputs → slice_index_or outputs-after t d ≡ output g (rest_in g.count rest d) (value_in g.count after d) t
+  pub outputs : (d : E) (t : ℕ) → t < length inputs → slice_index_or outputs_after t d ≡ output g (rest_in g.count rest d) (value_in g.count after d) t
   pub long : length after ≡ length before
   pub past_history : drop (g.count * length inputs) after ≡ drop (g.count * length inputs) before
-  pub outputs_long : length outputs-after ≡ length outputs-before
-  pub past_outputs : drop (length inputs) outputs-after ≡ drop (length inputs) outputs-before
+  pub outputs_long : length outputs_after ≡ length outputs_before
+  pub past_outputs : drop (length inputs) outputs_after ≡ drop (length inputs) outputs_before
 
 -- The answer: the first of the simulator's questions that is answered no, and then both rows stay; else the design is simulated.
-pub record Simulates {E A : Type 0} (g : Graph) (m : Meaning E A) (rest inputs before after outputs-before outputs-after : List E) (r : Result (Unit {0}) Fault) : Type 0 where
-  pub refuses : (f : Fault) → simulate_fault g.count (length rest) (length inputs) (length before) (length outputs-before) ≡ Some f →
-      (r ≡ Err f) × (after ≡ before) × (outputs-after ≡ outputs-before)
-  pub simulates : simulate_fault g.count (length rest) (length inputs) (length before) (length outputs-before) ≡ None →
-      (r ≡ Ok (tt {0})) × Simulated g m rest inputs before after outputs-before outputs-after
+pub record Simulates {E A : Type 0} (g : Graph) (m : Meaning E A) (rest inputs before after outputs_before outputs_after : List E) (r : Result (Unit {0}) Fault) : Type 0 where
+  pub refuses : (f : Fault) → simulate_fault g.count (length rest) (length inputs) (length before) (length outputs_before) ≡ Some f →
+      (r ≡ Err f) × (after ≡ before) × (outputs_after ≡ outputs_before)
+  pub simulates : simulate_fault g.count (length rest) (length inputs) (length before) (length outputs_before) ≡ None →
+      (r ≡ Ok (tt {0})) × Simulated g m rest inputs before after outputs_before outputs_after

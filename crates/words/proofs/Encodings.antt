@@ -1,6 +1,6 @@
 -- Laws of a design's words.
 use Rattle.std.proofs.Common.{◌≡◌, ℕ, suc, ◌+◌, ◌*◌, ◌<◌, ◌≤◌, List, [], ◌∷◌, ◌++◌, length, take, Some, None, Option, sym, ap, ◌∙◌, subst, append_assoc, add-zero, add-suc, suc-add, arith}
-use Rattle.std.specs.List.{AllByRecursion as All}
+use Rattle.std.specs.List.{AllByRecursion}
 use Rattle.std.proofs.ByRecursion.{All-from_get_or}
 use Rattle.std.proofs.lemmas.List.{length-append, length_push, length-take-le, get_or-take}
 use Rattle.words.specs.declared.graph.Node.{Node}
@@ -32,14 +32,14 @@ feeds_few j [] = omega arith
 feeds_few j (None ∷ fs) = omega (arith, feeds_few (suc j) fs)
 feeds_few j (Some d ∷ fs) = omega (arith, feeds_few (suc j) fs)
 
-pub nodes_few : (n i : ℕ) (nodes : List Node) → All (NodeInRange n) nodes → length (node_words i nodes) ≤ length nodes * 34
+pub nodes_few : (n i : ℕ) (nodes : List Node) → AllByRecursion (NodeInRange n) nodes → length (node_words i nodes) ≤ length nodes * 34
 unfolding node_words
 nodes_few n i [] each = omega arith
 nodes_few n i (node ∷ nodes) each =
     omega (arith, feeds_few 0 node.feeds, each.0.row, nodes_few n (suc i) nodes each.1, length-append (feed_words 0 node.feeds) (node_words (suc i) nodes))
 
 -- a design's own nodes are in range
-pub nodes_in_range : (g : Graph) → InRange g → All (NodeInRange g.count) (take g.count g.nodes)
+pub nodes_in_range : (g : Graph) → InRange g → AllByRecursion (NodeInRange g.count) (take g.count g.nodes)
 nodes_in_range g r =
     All-from_get_or (NodeInRange g.count) (take g.count g.nodes) absent
     (λ i l.

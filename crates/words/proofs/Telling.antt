@@ -1,6 +1,6 @@
 -- Two designs in range with the same words are the same design.
 use Rattle.std.proofs.Common.{◌≡◌, ℕ, suc, ◌+◌, ◌*◌, ◌^◌, ◌<◌, ◌≤◌, true, false, List, [], ◌∷◌, ◌++◌, length, get_or, take, drop, Some, None, Option, sym, refl, ap, ◌∙◌, subst, ap₂, ⊎_elim, append_assoc, arith}
-use Rattle.std.specs.List.{AllByRecursion as All}
+use Rattle.std.specs.List.{AllByRecursion}
 use Rattle.std.proofs.lemmas.List.{length-take-le, get_or-take, ext_get_or}
 use Rattle.std.proofs.lemmas.Bool.{cases_lt, both_ways}
 use Rattle.words.specs.declared.graph.Node.{Node}
@@ -65,12 +65,12 @@ feeds_tell (Some d ∷ fs) (Some e ∷ gs) j ws vs long room sf sg nw nv q =
 
 module _ (n : ℕ) (few : n ≤ max_nodes) where
   -- what follows a node's feeds is no feed
-  no_feed : (i : ℕ) (nodes : List Node) (ws : List ℕ) → i + length nodes ≤ n → All (NodeInRange n) nodes → NoFeed ws → NoFeed (node_words i nodes ++ ws)
+  no_feed : (i : ℕ) (nodes : List Node) (ws : List ℕ) → i + length nodes ≤ n → AllByRecursion (NodeInRange n) nodes → NoFeed ws → NoFeed (node_words i nodes ++ ws)
   unfolding node_words
   no_feed i [] ws room each none = none
   no_feed i (node ∷ nodes) ws room each none = ap is_feed (kind_made kind.Node (node.operation * 2 ^ 5 + i) (omega (arith, each.0.operation)))
 
-  nodes_tell : (ns ms : List Node) (i : ℕ) (ws vs : List ℕ) → length ns ≡ length ms → i + length ns ≤ n → All (NodeInRange n) ns → All (NodeInRange n) ms → NoFeed ws → NoFeed vs →
+  nodes_tell : (ns ms : List Node) (i : ℕ) (ws vs : List ℕ) → length ns ≡ length ms → i + length ns ≤ n → AllByRecursion (NodeInRange n) ns → AllByRecursion (NodeInRange n) ms → NoFeed ws → NoFeed vs →
       node_words i ns ++ ws ≡ node_words i ms ++ vs → (ns ≡ ms) × (ws ≡ vs)
   unfolding node_words
   nodes_tell [] [] i ws vs long room en em nw nv q = (refl, q)
@@ -102,7 +102,7 @@ encoded_tells g h r s q =
     let tails = sym (append_assoc (node_words 0 ns) (o ∷ []) (e ∷ [])) ∙ rest_same q ∙ append_assoc (node_words 0 ms) (p ∷ []) (f ∷ []) in
     let told =
     nodes_tell g.count r.few ns ms 0 (o ∷ (e ∷ [])) (p ∷ (f ∷ [])) (omega arith) (omega arith) (nodes_in_range g r)
-    (subst (λ m. All (NodeInRange m) ms) (sym count) (nodes_in_range h s))
+    (subst (λ m. AllByRecursion (NodeInRange m) ms) (sym count) (nodes_in_range h s))
     (ap is_feed (kind_made kind.Output (g.output.delay * 2 ^ 6 + g.output.node) (omega (arith, r.output_delay, r.output_node, r.few))))
     (ap is_feed (kind_made kind.Output (h.output.delay * 2 ^ 6 + h.output.node) (omega (arith, s.output_delay, s.output_node, s.few)))) tails in
     let out : o ≡ p = first_same told.1 in

@@ -1,6 +1,6 @@
 -- Every word of a design's encoding passes the questions.
 use Rattle.std.proofs.Common.{◌≡◌, ℕ, suc, ◌+◌, ◌-◌, ◌*◌, ◌^◌, ◌<◌, ◌≤◌, true, false, cond, ◌&&◌, eqb, ltb, leb, List, [], ◌∷◌, ◌++◌, length, get_or, take, Some, None, Option, sym, refl, ap, ◌∙◌, subst, ⊎_elim, append_assoc, add-zero, add-suc, suc-add, zero-add, add-one, arith}
-use Rattle.std.specs.List.{AllByRecursion as All}
+use Rattle.std.specs.List.{AllByRecursion}
 use Rattle.std.proofs.lemmas.List.{append-nil, length-take-le}
 use Rattle.std.proofs.lemmas.Bool.{lt-ltb, le-leb, eq-eqb, and_from, ltb-true, eqb-true, or_cases}
 use Rattle.words.specs.declared.graph.Node.{Node}
@@ -83,7 +83,7 @@ module _ (n : ℕ) (few : n ≤ max_nodes) where
         passes p (node_word i operation) after kind.Node k refl none,
       )
 
-  pub nodes_pass : (nodes : List Node) (p : List ℕ) (least i : ℕ) → Stands p n i least false → i + length nodes ≤ n → All (NodeInRange n) nodes → (after : List ℕ) →
+  pub nodes_pass : (nodes : List Node) (p : List ℕ) (least i : ℕ) → Stands p n i least false → i + length nodes ≤ n → AllByRecursion (NodeInRange n) nodes → (after : List ℕ) →
       (m : ℕ) × Stands (p ++ node_words i nodes) n (i + length nodes) m false × (refused_from p (node_words i nodes ++ after) ≡ refused_from (p ++ node_words i nodes) after)
   unfolding node_words
   nodes_pass [] p least i s room each after =

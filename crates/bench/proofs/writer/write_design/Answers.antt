@@ -1,5 +1,5 @@
 use Rattle.std.proofs.Common.{◌≡◌, ℕ, ◌+◌, ◌<◌, ◌≤◌, List, length, take, set, Ok, sym, ap, ◌∙◌, subst, ap₂, arith, rules}
-use Rattle.std.specs.List.{AllByRecursion as All}
+use Rattle.std.specs.List.{AllByRecursion}
 use Rattle.std.proofs.ByRecursion.{All-weaker}
 use Rattle.std.proofs.lemmas.List.{length-set, length-take-le}
 use Rattle.std.proofs.lemmas.Bool.{cond-false, le-ltb}
@@ -32,7 +32,7 @@ write_nodes-at-requires c =
     let m = length-take-le g.count g.nodes (omega (arith, r.few, r.table)) in
     record {
       few = omega (arith, r.few);
-      rows = subst (All (λ (node : Node). length node.feeds ≡ 33)) (sym e) (All-weaker (NodeInRange g.count) (λ (node : Node). length node.feeds ≡ 33) (λ node n. n.row) _ (nodes_in_range g r));
+      rows = subst (AllByRecursion (λ (node : Node). length node.feeds ≡ 33)) (sym e) (All-weaker (NodeInRange g.count) (λ (node : Node). length node.feeds ≡ 33) (λ node n. n.row) _ (nodes_in_range g r));
       room =
           omega (arith, size_is g r, c.size-needed.ensures, c.if-words-needed.false, length-set c.args.words.now 0 c.head_word.result, ap (λ l. length (node_words 0 l)) e);
     }

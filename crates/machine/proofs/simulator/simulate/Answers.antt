@@ -45,10 +45,10 @@ refused g m rest inputs history outputs r f fault answer =
     some_same : (x y : Fault) → Some x ≡ Some y → x ≡ y
     some_same x y q = cc
 
-accepted : {E A : Type 0} (g : Graph) (m : Meaning E A) (rest inputs before after outputs-before outputs-after : List E) →
-    simulate_fault g.count (length rest) (length inputs) (length before) (length outputs-before) ≡ None → Simulated g m rest inputs before after outputs-before outputs-after →
-    Simulates g m rest inputs before after outputs-before outputs-after (Ok (tt {0}))
-accepted g m rest inputs before after outputs-before outputs-after none simulated =
+accepted : {E A : Type 0} (g : Graph) (m : Meaning E A) (rest inputs before after outputs_before outputs_after : List E) →
+    simulate_fault g.count (length rest) (length inputs) (length before) (length outputs_before) ≡ None → Simulated g m rest inputs before after outputs_before outputs_after →
+    Simulates g m rest inputs before after outputs_before outputs_after (Ok (tt {0}))
+accepted g m rest inputs before after outputs_before outputs_after none simulated =
     record { refuses = λ f fault. absurd (true≢false (ap is_some (sym fault ∙ none))); simulates = λ _. (refl, simulated) }
 
 pub ask_lengths-requires : goal.ask_lengths-requires
