@@ -8,6 +8,8 @@ use Rattle.words.specs.declared.faults.Fault.{Fault}
 use Rattle.words.specs.Fields.{field}
 use Rattle.words.specs.Kinds.{kind_of, named_bits, unnamed}
 use Rattle.words.specs.Questions.{asked, may_stand, fields_in_range, in_order, ends_well, count_of, nodes_in}
+use Rattle.words.specs.declared.faults.WordsQuestion.{WordsQuestion}
+use Rattle.words.specs.declared.faults.WordsQuestion.TheVariants as question
 use Rattle.words.specs.Refusals.{words_fault}
 use Rattle.words.specs.Drafts.{drafted, Sound}
 use Rattle.words.proofs.Asking.{refuse_2, refuse_3, refuse_4, refuse_5, allow}
@@ -61,22 +63,22 @@ module _ (d : Draft) (s : Sound d) where
 
   -- the answers, at the index of the word
   module _ (w : ℕ) (k : Kind) (e : kind_of w ≡ k) (index : ℕ) (place : index ≡ length (drafted d)) (f : Fault) where
-    at : (number : ℕ) → f ≡ words_fault number index → Some (words_fault number (length (drafted d))) ≡ Some f
-    at number is = ap (λ i. Some (words_fault number i)) (sym place) ∙ ap Some (sym is)
+    at : (q : WordsQuestion) → f ≡ words_fault q index → Some (words_fault q (length (drafted d))) ≡ Some f
+    at q is = ap (λ i. Some (words_fault q i)) (sym place) ∙ ap Some (sym is)
 
-    pub no_2 : f ≡ words_fault 2 index → stands_of d k ≡ false → (after : List ℕ) → asked (drafted d) w after ≡ Some f
-    no_2 is a after = refuse_2 (drafted d) w after k e (may_stand_is k ∙ a) ∙ at 2 is
+    pub no_2 : f ≡ words_fault question.Kind index → stands_of d k ≡ false → (after : List ℕ) → asked (drafted d) w after ≡ Some f
+    no_2 is a after = refuse_2 (drafted d) w after k e (may_stand_is k ∙ a) ∙ at question.Kind is
 
-    pub no_3 : f ≡ words_fault 3 index → stands_of d k ≡ true → in_range_of d w k ≡ false → (after : List ℕ) → asked (drafted d) w after ≡ Some f
-    no_3 is a b after = refuse_3 (drafted d) w after k e (may_stand_is k ∙ a) (in_range_is w k e ∙ b) ∙ at 3 is
+    pub no_3 : f ≡ words_fault question.Range index → stands_of d k ≡ true → in_range_of d w k ≡ false → (after : List ℕ) → asked (drafted d) w after ≡ Some f
+    no_3 is a b after = refuse_3 (drafted d) w after k e (may_stand_is k ∙ a) (in_range_is w k e ∙ b) ∙ at question.Range is
 
-    pub no_4 : f ≡ words_fault 4 index → stands_of d k ≡ true → in_range_of d w k ≡ true → orders_of d w k ≡ false →
+    pub no_4 : f ≡ words_fault question.Order index → stands_of d k ≡ true → in_range_of d w k ≡ true → orders_of d w k ≡ false →
         (after : List ℕ) → asked (drafted d) w after ≡ Some f
-    no_4 is a b c after = refuse_4 (drafted d) w after k e (may_stand_is k ∙ a) (in_range_is w k e ∙ b) (in_order_is w k ∙ c) ∙ at 4 is
+    no_4 is a b c after = refuse_4 (drafted d) w after k e (may_stand_is k ∙ a) (in_range_is w k e ∙ b) (in_order_is w k ∙ c) ∙ at question.Order is
 
-    pub no_5 : f ≡ words_fault 5 index → stands_of d k ≡ true → in_range_of d w k ≡ true → orders_of d w k ≡ true →
+    pub no_5 : f ≡ words_fault question.End index → stands_of d k ≡ true → in_range_of d w k ≡ true → orders_of d w k ≡ true →
         (after : List ℕ) → ends_well (drafted d) w after k ≡ false → asked (drafted d) w after ≡ Some f
-    no_5 is a b c after h = refuse_5 (drafted d) w after k e (may_stand_is k ∙ a) (in_range_is w k e ∙ b) (in_order_is w k ∙ c) h ∙ at 5 is
+    no_5 is a b c after h = refuse_5 (drafted d) w after k e (may_stand_is k ∙ a) (in_range_is w k e ∙ b) (in_order_is w k ∙ c) h ∙ at question.End is
 
   pub yes : (w : ℕ) (k : Kind) → kind_of w ≡ k → stands_of d k ≡ true → in_range_of d w k ≡ true → orders_of d w k ≡ true →
       (after : List ℕ) → ends_well (drafted d) w after k ≡ true → asked (drafted d) w after ≡ None

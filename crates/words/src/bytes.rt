@@ -4,7 +4,7 @@ ghost use Rattle.std.specs.Prelude.{◌≡◌, ◌+◌, ◌*◌, ◌/◌, ◌≤
 ghost use Rattle.std.specs.List.{range_with_len};
 ghost use Rattle.words.specs.Bytes.{Packs, word_at};
 
-use crate::faults::{Fault, WordsFault};
+use crate::faults::{Fault, WordsQuestion};
 use crate::input::{InputWords, MAX_WORDS};
 
 /// How many bytes of an input are taken at the most.
@@ -37,11 +37,7 @@ impl InputWords {
         let length = bytes.len().min(MAX_BYTES);
         let count = length / 4;
         if length % 4 != 0 {
-            return Err(Fault::Words(WordsFault {
-                number: 1,
-                place: count,
-                other: 0,
-            }));
+            return Err(WordsQuestion::Word.at(count));
         }
         let mut words = [0; MAX_WORDS];
         pack(&bytes[0..length], &mut words);

@@ -5,35 +5,12 @@ ghost use Rattle.words.specs.Kinds.{kind_of, is_end};
 ghost use Rattle.words.specs.Designs.{is_source};
 ghost use Rattle.words.specs.Drafts.{drafted, Sound, Taken, headed, Begun, Ended};
 ghost use Rattle.words.specs.Reading.{Reads, ReadsBack};
-ghost use Rattle.words.specs.Refusals.{words_fault};
 
 use crate::design::Design;
 use crate::draft::Draft;
-use crate::faults::{Fault, WordsFault};
+use crate::faults::{Fault, WordsQuestion};
 use crate::graph::{Graph, INPUT, MAX_NODES, Node, Output, SOURCES};
 use crate::kinds::{Kind, field_of};
-
-/// Question 1: is there a word here?
-const NO_WORD: u8 = 1;
-/// Question 2: may its kind stand here?
-const MISPLACED: u8 = 2;
-/// Question 3: are unnamed bits zero and all fields in range?
-const OUT_OF_RANGE: u8 = 3;
-/// Question 4: is a node the next in order, a feed above the last one of its node?
-const OUT_OF_ORDER: u8 = 4;
-/// Question 5: at the end word, is its count right and is it the last given?
-const WRONG_END: u8 = 5;
-
-/// The refusal of a word: a question's number and the word's index.
-fn refusal(number: u8, index: usize) -> Fault
-    ensures { result ≡ words_fault number index }
-{
-    Fault::Words(WordsFault {
-        number,
-        place: index,
-        other: 0,
-    })
-}
 
 impl Draft {
     /// A design of `count` nodes, of which none was read yet.
@@ -60,16 +37,16 @@ impl Draft {
         ensures { Begun words.now result }
     {
         if words.len() == 0 {
-            return Err(refusal(NO_WORD, 0));
+            return Err(WordsQuestion::Word.at(0));
         }
         let word = words[0];
         match Kind::of(word) {
             Kind::Head => {}
-            _ => return Err(refusal(MISPLACED, 0)),
+            _ => return Err(WordsQuestion::Kind.at(0)),
         }
         let count = field_of(word, 0, 6) as usize;
         if !Kind::Head.is_clear(word) || count < 1 || count > MAX_NODES {
-            return Err(refusal(OUT_OF_RANGE, 0));
+            return Err(WordsQuestion::Range.at(0));
         }
         Ok(Draft::headed(count))
     }
@@ -82,14 +59,14 @@ impl Draft {
         ensures { Taken self.old self.new word result }
     {
         if self.seen >= self.graph.count {
-            return Err(refusal(MISPLACED, index));
+            return Err(WordsQuestion::Kind.at(index));
         }
         let number = field_of(word, 0, 5) as usize;
         if !Kind::Node.is_clear(word) || number >= self.graph.count {
-            return Err(refusal(OUT_OF_RANGE, index));
+            return Err(WordsQuestion::Range.at(index));
         }
         if number != self.seen {
-            return Err(refusal(OUT_OF_ORDER, index));
+            return Err(WordsQuestion::Order.at(index));
         }
         self.graph.nodes[self.seen].operation = field_of(word, 5, 8) as u8;
         self.seen += 1;
@@ -105,14 +82,14 @@ impl Draft {
         ensures { Taken self.old self.new word result }
     {
         if self.seen == 0 || self.complete {
-            return Err(refusal(MISPLACED, index));
+            return Err(WordsQuestion::Kind.at(index));
         }
         let source = field_of(word, 0, 6) as usize;
         if !Kind::Feed.is_clear(word) || !self.has_source(source) {
-            return Err(refusal(OUT_OF_RANGE, index));
+            return Err(WordsQuestion::Range.at(index));
         }
         if source < self.least {
-            return Err(refusal(OUT_OF_ORDER, index));
+            return Err(WordsQuestion::Order.at(index));
         }
         self.graph.nodes[self.seen - 1].feeds[source] = Some(field_of(word, 6, 8) as u8);
         self.least = source + 1;
@@ -134,11 +111,11 @@ impl Draft {
         ensures { Taken self.old self.new word result }
     {
         if self.seen != self.graph.count || self.complete {
-            return Err(refusal(MISPLACED, index));
+            return Err(WordsQuestion::Kind.at(index));
         }
         let node = field_of(word, 0, 6) as usize;
         if !Kind::Output.is_clear(word) || node >= self.graph.count {
-            return Err(refusal(OUT_OF_RANGE, index));
+            return Err(WordsQuestion::Range.at(index));
         }
         let delay = field_of(word, 6, 8) as u8;
         self.graph.output = Output { node, delay };
@@ -159,7 +136,7 @@ impl Draft {
             Kind::Node => self.node(word, index),
             Kind::Feed => self.feed(word, index),
             Kind::Output => self.output(word, index),
-            Kind::Head | Kind::End | Kind::Other => Err(refusal(MISPLACED, index)),
+            Kind::Head | Kind::End | Kind::Other => Err(WordsQuestion::Kind.at(index)),
         }
     }
 
@@ -172,14 +149,14 @@ impl Draft {
         ensures { Ended self.now word given result }
     {
         if !self.complete {
-            return Err(refusal(MISPLACED, index));
+            return Err(WordsQuestion::Kind.at(index));
         }
         if !Kind::End.is_clear(word) {
-            return Err(refusal(OUT_OF_RANGE, index));
+            return Err(WordsQuestion::Range.at(index));
         }
         let count = field_of(word, 0, 11) as usize;
         if count != index + 1 || given != index + 1 {
-            return Err(refusal(WRONG_END, index));
+            return Err(WordsQuestion::End.at(index));
         }
         Ok(Design {
             graph: self.graph,
@@ -201,7 +178,7 @@ fn read_words(words: &[u32]) -> Result<Design, Fault>
         }
         draft.take(kind, word, index)?;
     }
-    Err(refusal(NO_WORD, words.len()))
+    Err(WordsQuestion::Word.at(words.len()))
 }
 
 /// Reads a design from its words: the design, or the first question answered no.

@@ -37,5 +37,5 @@ loop-index-preserved c =
 pub returns : goal.returns
 returns c =
     let l : 0 < length c.args.words.now = c.in_ok-draft.ensures.1 in
-    refused_short c.args.words.now c.loop-index.index c.refusal.result (omega arith) c.refusal.ensures c.loop-index.invariant.2
+    refused_short c.args.words.now c.loop-index.index c.at.result (omega arith) c.at.ensures c.loop-index.invariant.2
     (subst Begins c.loop-index.invariant.1 (begins c.loop-index.draft c.loop-index.invariant.0))

@@ -11,17 +11,17 @@ use Rattle.words.proofs.draft.Draft.end.Goals.{then-count-index-via-then-count-i
 
 pub returns-then-not-self : goal.returns-then-not-self
 returns-then-not-self c = λ after _.
-    no_2 c.args.self.now c.requires.sound c.args.word kind.End c.requires.kind c.args.index c.requires.index c.refusal.result c.refusal.ensures c.if-not-self.true after
+    no_2 c.args.self.now c.requires.sound c.args.word kind.End c.requires.kind c.args.index c.requires.index c.at.result c.at.ensures c.if-not-self.true after
 
 pub returns-then-not-is_clear : goal.returns-then-not-is_clear
 returns-then-not-is_clear c = λ after _.
-    no_3 c.args.self.now c.requires.sound c.args.word kind.End c.requires.kind c.args.index c.requires.index c.refusal-then-not-is_clear.result
-    c.refusal-then-not-is_clear.ensures c.if-not-self.false (and_left _ _ (sym c.if-not-is_clear.ensures)) after
+    no_3 c.args.self.now c.requires.sound c.args.word kind.End c.requires.kind c.args.index c.requires.index c.at-then-not-is_clear.result
+    c.at-then-not-is_clear.ensures c.if-not-self.false (and_left _ _ (sym c.if-not-is_clear.ensures)) after
 
 pub returns-then-count-index : goal.returns-then-count-index
 returns-then-count-index c = λ after all.
-    no_5 c.args.self.now c.requires.sound c.args.word kind.End c.requires.kind c.args.index c.requires.index c.refusal-then-count-index.result
-    c.refusal-then-count-index.ensures c.if-not-self.false (and_from _ _ (sym c.if-not-is_clear.ensures) refl) refl after
+    no_5 c.args.self.now c.requires.sound c.args.word kind.End c.requires.kind c.args.index c.requires.index c.at-then-count-index.result
+    c.at-then-count-index.ensures c.if-not-self.false (and_from _ _ (sym c.if-not-is_clear.ensures) refl) refl after
     (elim c.then-count-index.branch [
       | then-count-index-via-then-count-index w ↦
           and_left _ _ (ne_eqb _ _ (λ e. w.if-count-index.true (c.field_of-count.ensures ∙ e ∙ ap (λ n. n + 1) (sym c.requires.index))))

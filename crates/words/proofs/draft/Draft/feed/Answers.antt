@@ -11,7 +11,7 @@ use Rattle.words.proofs.draft.Draft.feed.Goals.{then-self-eq0-via-then-self-eq0,
 
 pub returns-then-self-eq0 : goal.returns-then-self-eq0
 returns-then-self-eq0 c =
-    no_2 c.args.self.now c.requires.sound c.args.word kind.Feed c.requires.kind c.args.index c.requires.index c.refusal.result c.refusal.ensures
+    no_2 c.args.self.now c.requires.sound c.args.word kind.Feed c.requires.kind c.args.index c.requires.index c.at.result c.at.ensures
     (elim c.then-self-eq0.branch [
       | then-self-eq0-via-then-self-eq0 w ↦ and_left _ _ (le-ltb 0 c.args.self.now.seen (omega (arith, w.if-self-eq0.true)))
       | then-self-eq0-via-else-self-eq0+then-self w ↦ and_right _ _ (not_from_true _ w.if-self.true)
@@ -19,8 +19,8 @@ returns-then-self-eq0 c =
 
 pub returns-then-not-is_clear : goal.returns-then-not-is_clear
 returns-then-not-is_clear c =
-    no_3 c.args.self.now c.requires.sound c.args.word kind.Feed c.requires.kind c.args.index c.requires.index c.refusal-then-not-is_clear.result
-    c.refusal-then-not-is_clear.ensures
+    no_3 c.args.self.now c.requires.sound c.args.word kind.Feed c.requires.kind c.args.index c.requires.index c.at-then-not-is_clear.result
+    c.at-then-not-is_clear.ensures
     (and_from _ _ (lt-ltb 0 c.args.self.now.seen (omega (arith, c.if-self-eq0.false))) (not_from_false _ c.if-self.false))
     (elim c.then-not-is_clear.branch [
       | then-not-is_clear-via-then-not-is_clear w ↦ and_left _ _ (sym c.is_clear.ensures ∙ w.if-not-is_clear.true)
@@ -30,8 +30,8 @@ returns-then-not-is_clear c =
 
 pub returns-then-source-self : goal.returns-then-source-self
 returns-then-source-self c =
-    no_4 c.args.self.now c.requires.sound c.args.word kind.Feed c.requires.kind c.args.index c.requires.index c.refusal-then-source-self.result
-    c.refusal-then-source-self.ensures
+    no_4 c.args.self.now c.requires.sound c.args.word kind.Feed c.requires.kind c.args.index c.requires.index c.at-then-source-self.result
+    c.at-then-source-self.ensures
     (and_from _ _ (lt-ltb 0 c.args.self.now.seen (omega (arith, c.if-self-eq0.false))) (not_from_false _ c.if-self.false))
     (and_from _ _ (sym c.if-not-is_clear.ensures) (ap (is_source c.args.self.now.graph.count) (sym c.field_of-source.ensures) ∙ sym c.if-not-has_source.ensures))
     (lt-leb c.args.self.now.least (field 0 6 c.args.word) (omega (arith, c.field_of-source.ensures, c.if-source-self.true)))

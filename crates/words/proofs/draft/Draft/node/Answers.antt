@@ -10,13 +10,13 @@ use Rattle.words.proofs.draft.Draft.node.Goals.{then-not-is_clear-via-then-not-i
 
 pub returns-then-self : goal.returns-then-self
 returns-then-self c =
-    no_2 c.args.self.now c.requires.sound c.args.word kind.Node c.requires.kind c.args.index c.requires.index c.refusal.result c.refusal.ensures
+    no_2 c.args.self.now c.requires.sound c.args.word kind.Node c.requires.kind c.args.index c.requires.index c.at.result c.at.ensures
     (le-ltb _ _ c.if-self.true)
 
 pub returns-then-not-is_clear : goal.returns-then-not-is_clear
 returns-then-not-is_clear c =
-    no_3 c.args.self.now c.requires.sound c.args.word kind.Node c.requires.kind c.args.index c.requires.index c.refusal-then-not-is_clear.result
-    c.refusal-then-not-is_clear.ensures
+    no_3 c.args.self.now c.requires.sound c.args.word kind.Node c.requires.kind c.args.index c.requires.index c.at-then-not-is_clear.result
+    c.at-then-not-is_clear.ensures
     (lt-ltb _ _ c.if-self.false)
     (elim c.then-not-is_clear.branch [
       | then-not-is_clear-via-then-not-is_clear w ↦ and_left _ _ (sym c.is_clear.ensures ∙ w.if-not-is_clear.true)
@@ -25,8 +25,8 @@ returns-then-not-is_clear c =
 
 pub returns-then-number-self-2 : goal.returns-then-number-self-2
 returns-then-number-self-2 c =
-    no_4 c.args.self.now c.requires.sound c.args.word kind.Node c.requires.kind c.args.index c.requires.index c.refusal-then-number-self-2.result
-    c.refusal-then-number-self-2.ensures
+    no_4 c.args.self.now c.requires.sound c.args.word kind.Node c.requires.kind c.args.index c.requires.index c.at-then-number-self-2.result
+    c.at-then-number-self-2.ensures
     (lt-ltb _ _ c.if-self.false)
     (and_from _ _ (sym c.if-not-is_clear.ensures) (lt-ltb (field 0 5 c.args.word) c.args.self.now.graph.count (omega (arith, c.field_of-number.ensures))))
     (ne_eqb _ _ (λ q. c.if-number-self-2.true (c.field_of-number.ensures ∙ q)))

@@ -10,7 +10,7 @@ use Rattle.words.proofs.draft.Draft.output.Goals.{then-self-via-then-self, then-
 
 pub returns-then-self : goal.returns-then-self
 returns-then-self c =
-    no_2 c.args.self.now c.requires.sound c.args.word kind.Output c.requires.kind c.args.index c.requires.index c.refusal.result c.refusal.ensures
+    no_2 c.args.self.now c.requires.sound c.args.word kind.Output c.requires.kind c.args.index c.requires.index c.at.result c.at.ensures
     (elim c.then-self.branch [
       | then-self-via-then-self w ↦ and_right _ _ (ne_eqb _ _ w.if-self.true)
       | then-self-via-else-self+then-self-2 w ↦ and_left _ _ (and_right _ _ (not_from_true _ w.if-self-2.true))
@@ -18,8 +18,8 @@ returns-then-self c =
 
 pub returns-then-not-is_clear : goal.returns-then-not-is_clear
 returns-then-not-is_clear c =
-    no_3 c.args.self.now c.requires.sound c.args.word kind.Output c.requires.kind c.args.index c.requires.index c.refusal-then-not-is_clear.result
-    c.refusal-then-not-is_clear.ensures
+    no_3 c.args.self.now c.requires.sound c.args.word kind.Output c.requires.kind c.args.index c.requires.index c.at-then-not-is_clear.result
+    c.at-then-not-is_clear.ensures
     (and_from _ _ (and_from _ _ (lt-ltb 0 c.args.self.now.seen (omega (arith, c.requires.sound.ranges.some, c.if-self.false))) (not_from_false _ c.if-self-2.false)) (eq-eqb _ _ c.if-self.false))
     (elim c.then-not-is_clear.branch [
       | then-not-is_clear-via-then-not-is_clear w ↦ and_left _ _ (sym c.is_clear.ensures ∙ w.if-not-is_clear.true)

@@ -24,7 +24,7 @@ filled bytes ws n e h =
 pub returns-then-length-ne0 : goal.returns-then-length-ne0
 returns-then-length-ne0 c =
     let e = long c.args.bytes.now c.min-length.result c.min-length.ensures in
-    (λ h. c.if-length-ne0.true (ap (λ n. n % 4) (sym e) ∙ h), ap (λ n. no_word (n / 4)) (sym e))
+    (λ h. c.if-length-ne0.true (ap (λ n. n % 4) (sym e) ∙ h), c.at.ensures ∙ ap (λ n. no_word (n / 4)) (sym e))
 
 pub returns : goal.returns
 returns c =
