@@ -1,49 +1,53 @@
--- Every refusal at opening and of the bench: its number, its layer and its places.
+-- Every refusal at opening and of the bench: its question, its layer and its places.
 use Rattle.std.specs.Prelude.{ℕ, Some, None, Ok, Err, Option, Result}
 use Rattle.words.specs.declared.faults.Fault.{Fault}
 use Rattle.words.specs.declared.faults.Fault.TheVariants.{Design, Bench}
+use Rattle.words.specs.declared.faults.DesignQuestion.{DesignQuestion}
+use Rattle.words.specs.declared.faults.DesignQuestion.TheVariants as opening
+use Rattle.words.specs.declared.faults.BenchQuestion.{BenchQuestion}
+use Rattle.words.specs.declared.faults.BenchQuestion.TheVariants as bench
 
-abbrev pub design_fault : ℕ → ℕ → ℕ → Fault
-design_fault number place other = Design (record { number = number; place = place; other = other })
+abbrev pub design_fault : DesignQuestion → ℕ → ℕ → Fault
+design_fault asked place other = Design (record { question = asked; place = place; other = other })
 
 -- 6: has the cycle buffer n numbers? The length given, and n.
 abbrev pub short_cycle : ℕ → ℕ → Fault
-short_cycle given needed = design_fault 6 given needed
+short_cycle given needed = design_fault opening.CycleBuffer given needed
 
 -- 7: is the design well-defined? The length of the cycle shown.
 abbrev pub zero_cycle : ℕ → Fault
-zero_cycle length = design_fault 7 length 0
+zero_cycle length = design_fault opening.WellDefined length 0
 
-abbrev pub bench_fault : ℕ → ℕ → ℕ → Fault
-bench_fault number place other = Bench (record { number = number; place = place; other = other })
+abbrev pub bench_fault : BenchQuestion → ℕ → ℕ → Fault
+bench_fault asked place other = Bench (record { question = asked; place = place; other = other })
 
 -- 8: are there n shifts? The number given, and n.
 abbrev pub wrong_row : ℕ → ℕ → Fault
-wrong_row given needed = bench_fault 8 given needed
+wrong_row given needed = bench_fault bench.Row given needed
 
 -- 9: is each from −4,095 to 4,095? Its index.
 abbrev pub wrong_shift : ℕ → Fault
-wrong_shift index = bench_fault 9 index 0
+wrong_shift index = bench_fault bench.Shift index 0
 
 -- 10: is each lag to come from 0 to 4,095? The node.
 abbrev pub lag_out : ℕ → Fault
-lag_out node = bench_fault 10 node 0
+lag_out node = bench_fault bench.Lag node 0
 
 -- 11: is each delay to come from 0 to 4,095? The node and the source; the output as 32 and its node.
 abbrev pub delay_out : ℕ → ℕ → Fault
-delay_out node source = bench_fault 11 node source
+delay_out node source = bench_fault bench.Delay node source
 
 -- 12: is the factor from 1 to 64? The factor.
 abbrev pub wrong_factor : ℕ → Fault
-wrong_factor factor = bench_fault 12 factor 0
+wrong_factor factor = bench_fault bench.Factor factor 0
 
 -- 13: is K × factor at most 64? K and the factor.
 abbrev pub too_slow : ℕ → ℕ → Fault
-too_slow current factor = bench_fault 13 current factor
+too_slow current factor = bench_fault bench.Slowdown current factor
 
 -- 14: is the buffer long enough? The length given, and the length needed.
 abbrev pub too_short : ℕ → ℕ → Fault
-too_short given needed = bench_fault 14 given needed
+too_short given needed = bench_fault bench.Buffer given needed
 
 -- the answer of a call that puts its questions: what it makes, unless one is answered no
 abbrev pub unless : {X : Type 0} → Option Fault → X → Result X Fault

@@ -4,23 +4,12 @@ ghost use Rattle.std.specs.Prelude.{◌≡◌, ◌<◌, ◌≤◌, Some, None};
 ghost use Rattle.words.specs.Designs.{node_at};
 ghost use Rattle.bench.specs.First.{first};
 ghost use Rattle.bench.specs.Moves.{feed_fault, node_fault, delays_fault};
-ghost use Rattle.bench.specs.Refusals.{bench_fault, unless};
+ghost use Rattle.bench.specs.Refusals.{unless};
 
 use crate::retiming::{MAX_DELAY, Retiming};
 use words::design::Design;
-use words::faults::{BenchFault, Fault};
+use words::faults::{BenchQuestion, Fault, Question};
 use words::graph::{INPUT, Node};
-
-/// The refusal of a bench's question: its number and two places.
-pub(crate) fn refusal(number: u8, place: usize, other: usize) -> Fault
-    ensures { result ≡ bench_fault number place other }
-{
-    Fault::Bench(BenchFault {
-        number,
-        place,
-        other,
-    })
-}
 
 impl Retiming {
     /// What is wrong with the delay to come of one feed.
@@ -34,7 +23,7 @@ impl Retiming {
         if behind <= ahead && ahead <= behind + MAX_DELAY {
             None
         } else {
-            Some(refusal(11, node, source))
+            Some(BenchQuestion::Delay.refused(node, source))
         }
     }
 
@@ -79,7 +68,7 @@ impl Retiming {
         }
         let output = design.output();
         if self.factor * output.delay as u32 > MAX_DELAY {
-            return Err(refusal(11, INPUT, output.node));
+            return Err(BenchQuestion::Delay.refused(INPUT, output.node));
         }
         Ok(())
     }

@@ -11,10 +11,9 @@ ghost use Rattle.bench.specs.Refusals.{unless, unless_kept};
 ghost use Rattle.bench.specs.Verdicts.{C1Holds, C2Holds};
 
 use crate::bench::Bench;
-use crate::delays::refusal;
 use crate::order::Order;
 use crate::retiming::{MAX_FACTOR, MAX_LAG, NodeRecord, Retiming};
-use words::faults::Fault;
+use words::faults::{BenchQuestion, Fault, Question};
 use words::graph::MAX_NODES;
 
 impl NodeRecord {
@@ -73,7 +72,7 @@ impl Retiming {
         let mut moved = *self;
         moved.factor = self.factor * factor;
         if let Some(node) = retime_all(&mut moved.records, factor, shifts) {
-            return Err(refusal(10, node, 0));
+            return Err(BenchQuestion::Lag.refused(node, 0));
         }
         Ok(moved)
     }
@@ -91,7 +90,7 @@ impl Bench {
     {
         let current = self.retiming.factor;
         if current * factor > MAX_FACTOR {
-            return Err(refusal(13, current as usize, factor as usize));
+            return Err(BenchQuestion::Slowdown.refused(current as usize, factor as usize));
         }
         let moved = self.retiming.moved(factor, shifts, self.design.count())?;
         moved.check_delays(&self.design)?;
@@ -106,7 +105,7 @@ impl Bench {
         ensures retiming { self.new.retiming ≡ unless_kept (slow_fault self.old.design.graph self.old.retiming factor) (moved self.old.retiming factor []) self.old.retiming }
     {
         if factor < 1 || factor > MAX_FACTOR {
-            return Err(refusal(12, factor as usize, 0));
+            return Err(BenchQuestion::Factor.refused(factor as usize, 0));
         }
         self.make_move(factor, &[])
     }
@@ -119,10 +118,10 @@ impl Bench {
     {
         let count = self.design.count();
         if shifts.len() != count {
-            return Err(refusal(8, shifts.len(), count));
+            return Err(BenchQuestion::Row.refused(shifts.len(), count));
         }
         if let Some(index) = wrong_shift(shifts) {
-            return Err(refusal(9, index, 0));
+            return Err(BenchQuestion::Shift.refused(index, 0));
         }
         self.make_move(1, shifts)
     }

@@ -7,25 +7,14 @@ ghost use Rattle.bench.specs.Firing.{has, next};
 ghost use Rattle.bench.specs.Opening.{Opened};
 ghost use Rattle.bench.specs.Orders.{Kept, listed};
 ghost use Rattle.bench.specs.Retimings.{Sound, waits, at_rest};
-ghost use Rattle.bench.specs.Refusals.{design_fault};
 ghost use Rattle.bench.specs.Walks.{Closed};
 
 use crate::bench::Bench;
 use crate::order::Order;
 use crate::retiming::{NodeRecord, Retiming};
 use words::design::Design;
-use words::faults::{DesignFault, Fault};
+use words::faults::{DesignQuestion, Fault, Question};
 use words::graph::MAX_NODES;
-
-fn refusal(number: u8, place: usize, other: usize) -> Fault
-    ensures { result ≡ design_fault number place other }
-{
-    Fault::Design(DesignFault {
-        number,
-        place,
-        other,
-    })
-}
 
 impl Retiming {
     /// K is 1 and no node lags.
@@ -97,7 +86,7 @@ impl Bench {
         ensures { Opened design.now cycle.old cycle.new result }
     {
         if cycle.len() < design.count() {
-            return Err(refusal(6, cycle.len(), design.count()));
+            return Err(DesignQuestion::CycleBuffer.refused(cycle.len(), design.count()));
         }
         let retiming = Retiming::at_rest();
         let order = Order::firing(design, &retiming);
@@ -109,6 +98,6 @@ impl Bench {
         };
         let (path, node) = order.walk(design, &retiming, start);
         let rank = path.ranks[node].unwrap_or(0);
-        Err(refusal(7, path.copy_from(rank as usize, cycle), 0))
+        Err(DesignQuestion::WellDefined.refused(path.copy_from(rank as usize, cycle), 0))
     }
 }

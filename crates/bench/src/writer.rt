@@ -8,18 +8,14 @@ ghost use Rattle.bench.specs.Refusals.{too_short};
 
 use crate::encode;
 use words::design::Design;
-use words::faults::{BenchFault, Fault};
+use words::faults::{BenchQuestion, Fault, Question};
 use words::graph::Node;
 
 /// Question 14: is the buffer long enough?
 pub(crate) fn short_buffer(given: usize, needed: usize) -> Fault
     ensures { result ≡ too_short given needed }
 {
-    Fault::Bench(BenchFault {
-        number: 14,
-        place: given,
-        other: needed,
-    })
+    BenchQuestion::Buffer.refused(given, needed)
 }
 
 /// Writes words to the front of a buffer, and answers how many there are.

@@ -2,27 +2,17 @@
 
 ghost use Rattle.std.specs.Prelude.{◌≡◌, ◌≤◌};
 ghost use Rattle.bench.specs.Refusals.{unless};
-ghost use Rattle.machine.specs.Refusals.{machine_fault, simulate_fault};
+ghost use Rattle.machine.specs.Refusals.{simulate_fault};
 ghost use Rattle.machine.specs.Simulation.{Simulates};
 
 use crate::history::heard;
 use crate::tap::{Plan, Tap};
 use bench::bench::Bench;
 use cells::library::CellLibrary;
-use words::faults::{Fault, MachineFault};
+use words::faults::{Fault, MachineQuestion, Question};
 
 /// The most times that are simulated.
 pub const MAX_TIMES: usize = 65536;
-
-fn refusal(number: u8, place: usize, other: usize) -> Fault
-    ensures { result ≡ machine_fault number place other }
-{
-    Fault::Machine(MachineFault {
-        number,
-        place,
-        other,
-    })
-}
 
 /// Questions 17, 20, 21 and 22, of the lengths that are given for a design of `count` nodes.
 fn ask_lengths(
@@ -36,16 +26,16 @@ fn ask_lengths(
     ensures { result ≡ unless (simulate_fault count rest times history outputs) tt }
 {
     if rest != count + 1 {
-        return Err(refusal(17, rest, count + 1));
+        return Err(MachineQuestion::RestRow.refused(rest, count + 1));
     }
     if times > MAX_TIMES {
-        return Err(refusal(20, times, MAX_TIMES));
+        return Err(MachineQuestion::Times.refused(times, MAX_TIMES));
     }
     if history < count * times {
-        return Err(refusal(21, history, count * times));
+        return Err(MachineQuestion::History.refused(history, count * times));
     }
     if outputs < times {
-        return Err(refusal(22, outputs, times));
+        return Err(MachineQuestion::Outputs.refused(outputs, times));
     }
     Ok(())
 }

@@ -14,7 +14,7 @@ returns-then-shifts-count c =
     let h =
     lag_row c.args.self.now.design.graph c.args.self.now.retiming c.args.shifts.now (λ e. omega (arith, e, c.if-shifts-count.true, c.count-count.ensures)) in
     record {
-      answer = ap Err (c.refusal.ensures ∙ ap (wrong_row (length c.args.shifts.now)) c.count-count.ensures) ∙ sym (ap (λ o. unless o tt) h);
+      answer = ap Err (c.refused.ensures ∙ ap (wrong_row (length c.args.shifts.now)) c.count-count.ensures) ∙ sym (ap (λ o. unless o tt) h);
       design = refl;
       retiming = kept _ _ _ c.args.self.now.retiming h;
     }
@@ -25,7 +25,7 @@ returns-in-Some c =
     let h =
     lag_shifts c.args.self.now.design.graph c.args.self.now.retiming shifts (omega (arith, c.if-shifts-count.false, c.count-count.ensures))
     ∙ some_or (shifts_fault shifts) _ _ (shifts_some shifts c.in-Some.index (sym c.in-Some.ensures)) in
-    record { answer = ap Err c.refusal-in-Some.ensures ∙ sym (ap (λ o. unless o tt) h); design = refl; retiming = kept _ _ _ c.args.self.now.retiming h }
+    record { answer = ap Err c.refused-in-Some.ensures ∙ sym (ap (λ o. unless o tt) h); design = refl; retiming = kept _ _ _ c.args.self.now.retiming h }
 
 pub make_move-requires : goal.make_move-requires
 make_move-requires c =

@@ -23,7 +23,7 @@ overflow_mul-current c =
 pub returns-then-current-factor-gt-MAX_FACTOR : goal.returns-then-current-factor-gt-MAX_FACTOR
 returns-then-current-factor-gt-MAX_FACTOR c =
     let h = made_slow c.args.self.now.design.graph c.args.self.now.retiming c.args.factor c.args.shifts.now c.if-current-factor-gt-MAX_FACTOR.true in
-    record { answer = ap Err c.refusal.ensures ∙ sym (ap (λ o. unless o tt) h); design = refl; retiming = kept _ _ _ c.args.self.now.retiming h }
+    record { answer = ap Err c.refused.ensures ∙ sym (ap (λ o. unless o tt) h); design = refl; retiming = kept _ _ _ c.args.self.now.retiming h }
 
 pub moved-requires : goal.moved-requires
 moved-requires c =

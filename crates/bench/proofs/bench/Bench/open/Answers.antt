@@ -126,7 +126,7 @@ returns c =
         round g (listed o) node closed,
         round_cycle g (listed o) node closed,
         round_zero g (listed o) node closed,
-        c.refusal-2.ensures ∙ ap zero_cycle (c.copy_from.ensures.count ∙ ap (λ n. length (drop n (listed o))) at),
+        c.refused-2.ensures ∙ ap zero_cycle (c.copy_from.ensures.count ∙ ap (λ n. length (drop n (listed o))) at),
         c.copy_from.ensures.buffer ∙ ap (λ n. overlaid c.args.cycle.now 0 (drop n (listed o))) at,
       );
     }

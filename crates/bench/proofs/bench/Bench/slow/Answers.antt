@@ -15,7 +15,7 @@ returns-then-factor-lt1 c =
       | then-factor-lt1-via-then-factor-lt1 w ↦ and_left _ _ (lt-leb 1 c.args.factor w.if-factor-lt1.true)
       | then-factor-lt1-via-else-factor-lt1+then-factor-gt-MAX_FACTOR w ↦ and_right _ _ (lt-leb c.args.factor 64 w.if-factor-gt-MAX_FACTOR.true)
     ]) in
-    record { answer = ap Err c.refusal.ensures ∙ sym (ap (λ o. unless o tt) h); design = refl; retiming = kept _ _ _ c.args.self.now.retiming h }
+    record { answer = ap Err c.refused.ensures ∙ sym (ap (λ o. unless o tt) h); design = refl; retiming = kept _ _ _ c.args.self.now.retiming h }
 
 pub returns : goal.returns
 returns c =

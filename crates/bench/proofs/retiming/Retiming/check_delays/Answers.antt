@@ -29,7 +29,7 @@ returns-then-self-output-gt-MAX_DELAY c =
     let p : Retiming = c.args.self.now in
     let d = same_delay g p c.output-output.result c.output-output.ensures in
     ap (λ o. unless o tt)
-    (ap Some (c.refusal.ensures ∙ ap (λ (x : Output). delay_out input x.node) c.output-output.ensures)
+    (ap Some (c.refused.ensures ∙ ap (λ (x : Output). delay_out input x.node) c.output-output.ensures)
     ∙ sym (cond-false _ _ _ (lt-leb (output_delay g p) max_delay (omega (arith, c.if-self-output-gt-MAX_DELAY.true)))) ∙ sym (by_output g p (sym c.in_default.ensures)))
 
 pub returns : goal.returns

@@ -16,7 +16,7 @@ returns-in-Some c =
     let p : Retiming = c.args.self.now in
     let lags : ℕ → ℤ = moved_lag p c.args.factor c.args.shifts.now in
     let found = lags_some 32 lags c.in-Some.node (ap (first_of lags) (sym c.requires.table) ∙ sym c.in-Some.ensures.answer) in
-    ap Err c.refusal.ensures ∙ sym (ap (λ o. unless o (moved p c.args.factor c.args.shifts.now)) (sym c.requires.past ∙ found))
+    ap Err c.refused.ensures ∙ sym (ap (λ o. unless o (moved p c.args.factor c.args.shifts.now)) (sym c.requires.past ∙ found))
 
 pub returns : goal.returns
 unfolding first_of
