@@ -82,6 +82,18 @@ pub struct Refusal<Q> {
     pub other: usize,
 }
 
+impl<Q> Refusal<Q> {
+    fn by(question: Q, place: usize, other: usize) -> Refusal<Q>
+        ensures { result ≡ record { question = question; place = place; other = other } }
+    {
+        Refusal {
+            question,
+            place,
+            other,
+        }
+    }
+}
+
 /// A refusal by the word reader.
 pub type WordsFault = Refusal<WordsQuestion>;
 
@@ -140,11 +152,7 @@ impl Question for WordsQuestion {
     }
 
     fn refused(self, place: usize, other: usize) -> Fault {
-        Fault::Words(Refusal {
-            question: self,
-            place,
-            other,
-        })
+        Fault::Words(Refusal::by(self, place, other))
     }
 }
 
@@ -173,11 +181,7 @@ impl Question for DesignQuestion {
     }
 
     fn refused(self, place: usize, other: usize) -> Fault {
-        Fault::Design(Refusal {
-            question: self,
-            place,
-            other,
-        })
+        Fault::Design(Refusal::by(self, place, other))
     }
 }
 
@@ -197,11 +201,7 @@ impl Question for BenchQuestion {
     }
 
     fn refused(self, place: usize, other: usize) -> Fault {
-        Fault::Bench(Refusal {
-            question: self,
-            place,
-            other,
-        })
+        Fault::Bench(Refusal::by(self, place, other))
     }
 }
 
@@ -221,11 +221,7 @@ impl Question for MachineQuestion {
     }
 
     fn refused(self, place: usize, other: usize) -> Fault {
-        Fault::Machine(Refusal {
-            question: self,
-            place,
-            other,
-        })
+        Fault::Machine(Refusal::by(self, place, other))
     }
 }
 

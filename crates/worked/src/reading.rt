@@ -4,7 +4,9 @@ use bench::listing::list_design;
 use bench::writer::write_design;
 use examples::designs::DESIGN_E;
 use std::test::Fail;
-use words::faults::{BenchFault, Fault, WordsFault};
+use words::faults::{
+    BenchQuestion, DesignQuestion, Fault, MachineQuestion, Question, WordsQuestion,
+};
 use words::input::InputWords;
 use words::reader::read_design;
 
@@ -16,12 +18,8 @@ fn refusal_of(words: &[u32]) -> Option<Fault> {
     }
 }
 
-fn by_words(number: u8, place: usize) -> Option<Fault> {
-    Some(Fault::Words(WordsFault {
-        number,
-        place,
-        other: 0,
-    }))
+fn by_words(question: WordsQuestion, place: usize) -> Option<Fault> {
+    Some(question.refused(place, 0))
 }
 
 #[test]
@@ -61,22 +59,14 @@ fn design_e_writes_back(rt: HostRuntime) -> Result<(), Fail> {
 fn short_buffers_stay(rt: HostRuntime) -> Result<(), Fail> {
     let design = read_design(&DESIGN_E)?;
     let mut words = [7; 7];
-    let fault = Fault::Bench(BenchFault {
-        number: 14,
-        place: 7,
-        other: 8,
-    });
+    let fault = BenchQuestion::Buffer.refused(7, 8);
     assert!(rt; write_design(&design, &mut words) == Err(fault));
     assert!(rt; words == [7; 7]);
     Ok(())
 }
 
 fn too_short(place: usize, other: usize) -> Fault {
-    Fault::Bench(BenchFault {
-        number: 14,
-        place,
-        other,
-    })
+    BenchQuestion::Buffer.refused(place, other)
 }
 
 #[test]
@@ -120,25 +110,43 @@ fn one_node_lists(rt: HostRuntime) -> Result<(), Fail> {
 
 #[test]
 fn each_question_refuses(rt: HostRuntime) {
-    assert_eq!(rt; refusal_of(&[]), by_words(1, 0));
-    assert_eq!(rt; refusal_of(&[0x10000001, 0x20000000]), by_words(1, 2));
-    assert_eq!(rt; refusal_of(&[0x20000000]), by_words(2, 0));
-    assert_eq!(rt; refusal_of(&[0x10000001, 0x30000020]), by_words(2, 1));
-    assert_eq!(rt; refusal_of(&[0x10000000]), by_words(3, 0));
-    assert_eq!(rt; refusal_of(&[0x10000021]), by_words(3, 0));
-    assert_eq!(rt; refusal_of(&[0x10000001, 0x20000001]), by_words(3, 1));
-    assert_eq!(rt; refusal_of(&[0x10000002, 0x20000001]), by_words(4, 1));
+    assert_eq!(rt; refusal_of(&[]), by_words(WordsQuestion::Word, 0));
+    assert_eq!(rt;
+        refusal_of(&[0x10000001, 0x20000000]),
+        by_words(WordsQuestion::Word, 2)
+    );
+    assert_eq!(rt; refusal_of(&[0x20000000]), by_words(WordsQuestion::Kind, 0));
+    assert_eq!(rt;
+        refusal_of(&[0x10000001, 0x30000020]),
+        by_words(WordsQuestion::Kind, 1)
+    );
+    assert_eq!(rt;
+        refusal_of(&[0x10000000]),
+        by_words(WordsQuestion::Range, 0)
+    );
+    assert_eq!(rt;
+        refusal_of(&[0x10000021]),
+        by_words(WordsQuestion::Range, 0)
+    );
+    assert_eq!(rt;
+        refusal_of(&[0x10000001, 0x20000001]),
+        by_words(WordsQuestion::Range, 1)
+    );
+    assert_eq!(rt;
+        refusal_of(&[0x10000002, 0x20000001]),
+        by_words(WordsQuestion::Order, 1)
+    );
     assert_eq!(rt;
         refusal_of(&[0x10000001, 0x20000000, 0x30000020, 0x30000000]),
-        by_words(4, 3)
+        by_words(WordsQuestion::Order, 3)
     );
     assert_eq!(rt;
         refusal_of(&[0x10000001, 0x20000000, 0x40000000, 0x50000005]),
-        by_words(5, 3)
+        by_words(WordsQuestion::End, 3)
     );
     assert_eq!(rt;
         refusal_of(&[0x10000001, 0x20000000, 0x40000000, 0x50000004, 0]),
-        by_words(5, 3)
+        by_words(WordsQuestion::End, 3)
     );
 }
 
@@ -149,8 +157,20 @@ fn left_over_bytes_refuse(rt: HostRuntime) -> Result<(), Fail> {
     match InputWords::from_bytes(b"\x10\x00\x00\x01\x20") {
         Ok(_) => Err(Fail::new("accepted")),
         Err(fault) => {
-            assert_eq!(rt; Some(fault), by_words(1, 1));
+            assert_eq!(rt; Some(fault), by_words(WordsQuestion::Word, 1));
             Ok(())
         },
     }
+}
+
+#[test]
+fn questions_are_numbered(rt: HostRuntime) {
+    assert_eq!(rt; WordsQuestion::Word.number(), 1);
+    assert_eq!(rt; WordsQuestion::End.number(), 5);
+    assert_eq!(rt; DesignQuestion::CycleBuffer.number(), 6);
+    assert_eq!(rt; DesignQuestion::WellDefined.number(), 7);
+    assert_eq!(rt; BenchQuestion::Row.number(), 8);
+    assert_eq!(rt; BenchQuestion::Buffer.number(), 14);
+    assert_eq!(rt; MachineQuestion::Tap.number(), 15);
+    assert_eq!(rt; MachineQuestion::Outputs.number(), 22);
 }

@@ -6,7 +6,7 @@ use bench::verdict::Verdict;
 use examples::designs::{DESIGN_E, FIR};
 use std::test::Fail;
 use words::design::Design;
-use words::faults::{BenchFault, DesignFault, Fault, MachineFault};
+use words::faults::{BenchQuestion, DesignQuestion, Fault, MachineQuestion, Question};
 use words::graph::MAX_NODES;
 use words::reader::read_design;
 
@@ -24,20 +24,12 @@ pub(crate) fn refusal(answer: Result<(), Fault>) -> Option<Fault> {
     }
 }
 
-fn by_bench(number: u8, place: usize, other: usize) -> Option<Fault> {
-    Some(Fault::Bench(BenchFault {
-        number,
-        place,
-        other,
-    }))
+fn by_bench(question: BenchQuestion, place: usize, other: usize) -> Option<Fault> {
+    Some(question.refused(place, other))
 }
 
-pub(crate) fn by_machine(number: u8, place: usize, other: usize) -> Option<Fault> {
-    Some(Fault::Machine(MachineFault {
-        number,
-        place,
-        other,
-    }))
+pub(crate) fn by_machine(question: MachineQuestion, place: usize, other: usize) -> Option<Fault> {
+    Some(question.refused(place, other))
 }
 
 /// What opening refuses, if it does.
@@ -79,11 +71,7 @@ fn a_zero_cycle_is_shown(rt: HostRuntime) -> Result<(), Fail> {
     let mut cycle = [9; 2];
     assert_eq!(rt;
         unopened(&design, &mut cycle),
-        Some(Fault::Design(DesignFault {
-            number: 7,
-            place: 1,
-            other: 0,
-        }))
+        Some(DesignQuestion::WellDefined.refused(1, 0))
     );
     assert!(rt; cycle == [0, 9]);
     Ok(())
@@ -95,11 +83,7 @@ fn a_short_cycle_buffer_is_refused(rt: HostRuntime) -> Result<(), Fail> {
     let mut cycle = [9; 1];
     assert_eq!(rt;
         unopened(&design, &mut cycle),
-        Some(Fault::Design(DesignFault {
-            number: 6,
-            place: 1,
-            other: 2,
-        }))
+        Some(DesignQuestion::CycleBuffer.refused(1, 2))
     );
     assert!(rt; cycle == [9]);
     Ok(())
@@ -112,11 +96,7 @@ fn short_cycle_buffers_of_every_length(rt: HostRuntime) -> Result<(), Fail> {
         let mut cycle = [9; 3];
         assert_eq!(rt;
             unopened(&design, &mut cycle[0..length]),
-            Some(Fault::Design(DesignFault {
-                number: 6,
-                place: length,
-                other: 2,
-            }))
+            Some(DesignQuestion::CycleBuffer.refused(length, 2))
         );
         assert!(rt; cycle == [9; 3]);
     }
@@ -137,13 +117,31 @@ fn cycle_buffers_of_an_opened_design_stay(rt: HostRuntime) -> Result<(), Fail> {
 #[test]
 fn lags_of_design_e(rt: HostRuntime) -> Result<(), Fail> {
     let mut bench = opened(&DESIGN_E)?;
-    assert_eq!(rt; refusal(bench.lag(&[0, 1])), by_bench(11, 0, 1));
-    assert_eq!(rt; refusal(bench.lag(&[0])), by_bench(8, 1, 2));
-    assert_eq!(rt; refusal(bench.lag(&[0, 4096])), by_bench(9, 1, 0));
-    assert_eq!(rt; refusal(bench.lag(&[-4096, 0])), by_bench(9, 0, 0));
-    assert_eq!(rt; refusal(bench.lag(&[0, -1])), by_bench(10, 1, 0));
+    assert_eq!(rt;
+        refusal(bench.lag(&[0, 1])),
+        by_bench(BenchQuestion::Delay, 0, 1)
+    );
+    assert_eq!(rt;
+        refusal(bench.lag(&[0])),
+        by_bench(BenchQuestion::Row, 1, 2)
+    );
+    assert_eq!(rt;
+        refusal(bench.lag(&[0, 4096])),
+        by_bench(BenchQuestion::Shift, 1, 0)
+    );
+    assert_eq!(rt;
+        refusal(bench.lag(&[-4096, 0])),
+        by_bench(BenchQuestion::Shift, 0, 0)
+    );
+    assert_eq!(rt;
+        refusal(bench.lag(&[0, -1])),
+        by_bench(BenchQuestion::Lag, 1, 0)
+    );
     bench.lag(&[4095, 4095])?;
-    assert_eq!(rt; refusal(bench.lag(&[1, 1])), by_bench(10, 0, 0));
+    assert_eq!(rt;
+        refusal(bench.lag(&[1, 1])),
+        by_bench(BenchQuestion::Lag, 0, 0)
+    );
     assert!(rt; bench.timing() == (1, 4095));
     Ok(())
 }
@@ -151,11 +149,23 @@ fn lags_of_design_e(rt: HostRuntime) -> Result<(), Fail> {
 #[test]
 fn slowing_design_e(rt: HostRuntime) -> Result<(), Fail> {
     let mut bench = opened(&DESIGN_E)?;
-    assert_eq!(rt; refusal(bench.slow(0)), by_bench(12, 0, 0));
-    assert_eq!(rt; refusal(bench.slow(65)), by_bench(12, 65, 0));
+    assert_eq!(rt;
+        refusal(bench.slow(0)),
+        by_bench(BenchQuestion::Factor, 0, 0)
+    );
+    assert_eq!(rt;
+        refusal(bench.slow(65)),
+        by_bench(BenchQuestion::Factor, 65, 0)
+    );
     bench.slow(64)?;
-    assert_eq!(rt; refusal(bench.slow(2)), by_bench(13, 64, 2));
-    assert_eq!(rt; refusal(bench.settle()), by_bench(13, 64, 2));
+    assert_eq!(rt;
+        refusal(bench.slow(2)),
+        by_bench(BenchQuestion::Slowdown, 64, 2)
+    );
+    assert_eq!(rt;
+        refusal(bench.settle()),
+        by_bench(BenchQuestion::Slowdown, 64, 2)
+    );
     assert_eq!(rt; bench.delay(0, 0), Some(64));
     Ok(())
 }
@@ -166,9 +176,15 @@ fn delays_of_63_and_64_slowed_by_64(rt: HostRuntime) -> Result<(), Fail> {
     bench.slow(64)?;
     assert_eq!(rt; bench.delay(0, 32), Some(4032));
     let mut longer = opened(&[0x10000001, 0x20000000, 0x30001020, 0x40000000, 0x50000005])?;
-    assert_eq!(rt; refusal(longer.slow(64)), by_bench(11, 0, 32));
+    assert_eq!(rt;
+        refusal(longer.slow(64)),
+        by_bench(BenchQuestion::Delay, 0, 32)
+    );
     let mut output = opened(&[0x10000001, 0x20000000, 0x40001000, 0x50000004])?;
-    assert_eq!(rt; refusal(output.slow(64)), by_bench(11, 32, 0));
+    assert_eq!(rt;
+        refusal(output.slow(64)),
+        by_bench(BenchQuestion::Delay, 32, 0)
+    );
     Ok(())
 }
 
@@ -254,7 +270,7 @@ fn program_buffers_of_every_length(rt: HostRuntime) -> Result<(), Fail> {
         let mut words = [7; 12];
         assert_eq!(rt;
             short(bench.emit(&mut words[0..length])),
-            by_bench(14, length, 11)
+            by_bench(BenchQuestion::Buffer, length, 11)
         );
         assert!(rt; words == [7; 12]);
     }
@@ -273,7 +289,7 @@ fn short_listing_buffers_of_every_length(rt: HostRuntime) -> Result<(), Fail> {
         let mut text = [7; 100];
         assert_eq!(rt;
             short(bench.list(&mut text[0..length])),
-            by_bench(14, length, 99)
+            by_bench(BenchQuestion::Buffer, length, 99)
         );
         assert!(rt; text == [7; 100]);
     }

@@ -14,7 +14,7 @@ use examples::libraries::cells_of_e;
 use machine::simulator::simulate;
 use std::num::f32_to_bits_with_nan;
 use std::test::Fail;
-use words::faults::Fault;
+use words::faults::{Fault, MachineQuestion};
 
 #[test]
 fn worked_results_are_proved() {
@@ -84,7 +84,7 @@ fn rest_rows_of_wrong_lengths(rt: HostRuntime) -> Result<(), Fail> {
         let wrong = if length == 3 {
             None
         } else {
-            by_machine(17, length, 3)
+            by_machine(MachineQuestion::RestRow, length, 3)
         };
         assert_eq!(rt; refusal(answer), wrong);
         assert!(rt; (history == [7; 6]) == (length != 3));
@@ -100,7 +100,7 @@ fn short_rows_stay(rt: HostRuntime) -> Result<(), Fail> {
     let mut outputs = [7; 3];
     assert_eq!(rt;
         refusal(simulate_e(&bench, &mut history, &mut outputs)),
-        by_machine(21, 5, 6)
+        by_machine(MachineQuestion::History, 5, 6)
     );
     assert!(rt; history == [7; 5]);
     assert!(rt; outputs == [7; 3]);
@@ -108,7 +108,7 @@ fn short_rows_stay(rt: HostRuntime) -> Result<(), Fail> {
     let mut outputs = [7; 2];
     assert_eq!(rt;
         refusal(simulate_e(&bench, &mut history, &mut outputs)),
-        by_machine(22, 2, 3)
+        by_machine(MachineQuestion::Outputs, 2, 3)
     );
     assert!(rt; history == [7; 6]);
     assert!(rt; outputs == [7; 2]);
