@@ -1,12 +1,12 @@
 -- What the questions answer at a word whose kind is known.
-use Rattle.std.proofs.Common.{◌≡◌, ℕ, true, false, ◌&&◌, eqb, List, length, Some, None, ap, ◌∙◌}
+use Rattle.std.proofs.Common.{◌≡◌, ℕ, true, false, ◌&&◌, eqb, List, length, Some, None, ap, ◌∙◌, Option}
 use Rattle.std.proofs.lemmas.Bool.{cond-true, cond-false}
 use Rattle.words.specs.declared.kinds.Kind.{Kind}
 use Rattle.words.specs.Kinds.{kind_of, unnamed}
 use Rattle.words.specs.Questions.{asked, asked_of, may_stand, fields_in_range, in_order, ends_well, count_of}
 use Rattle.words.specs.Refusals.{misplaced, out_of_range, out_of_order, wrong_end}
 
-module _ (p : List ℕ) (w : ℕ) (after : List ℕ) (k : Kind) (e : kind_of w ≡ k) where
+module _ (p : List ℕ) (w : ℕ) (after : List ℕ) (k : Option Kind) (e : kind_of w ≡ k) where
   asked_as : asked p w after ≡ asked_of p w after k
   unfolding asked
   asked_as = ap (asked_of p w after) e

@@ -1,7 +1,7 @@
 -- A draft with one word more is sound, and is the draft of the words with that word.
-use Rattle.std.proofs.Common.{◌≡◌, ℕ, suc, ◌+◌, ◌-◌, ◌<◌, ◌≤◌, true, false, List, [], ◌∷◌, ◌++◌, length, get_or, take, set, Some, None, Option, sym, ap, ◌∙◌, subst, ⊎_elim, append_assoc, zero-add, arith}
+use Rattle.std.proofs.Common.{◌≡◌, ℕ, suc, ◌+◌, ◌-◌, ◌<◌, ◌≤◌, true, false, List, [], ◌∷◌, ◌++◌, length, get_or, take, set, is_some, Some, None, Option, sym, ap, ◌∙◌, subst, ⊎_elim, append_assoc, zero-add, arith}
 use Rattle.std.proofs.lemmas.List.{get_or-set_same, get_or-set_other, length-set, length-take-le, take_more, take_more_set}
-use Rattle.std.proofs.lemmas.Bool.{cases_eq, both_ways, true≢false}
+use Rattle.std.proofs.lemmas.Bool.{cases_eq}
 use Rattle.words.specs.declared.graph.Node.{Node}
 use Rattle.words.specs.declared.graph.Output.{Output}
 use Rattle.words.specs.declared.graph.Graph.{Graph}
@@ -13,14 +13,14 @@ use Rattle.words.specs.Designs.{NodeInRange, blank, absent, node_at, feed_at, so
 use Rattle.words.specs.Encoding.{head_word, node_word, feed_word, output_word, feed_words, node_words}
 use Rattle.words.specs.Drafts.{drafted, Sound, Stands, node_read, feed_read, output_read}
 use Rattle.words.proofs.Standing.{stands_node, stands_feed, stands_output}
-use Rattle.words.proofs.Drafting.{blank_none, blank_feeds, nodes_push, feeds_set, at_same, at_other, in_range_with, open_words}
+use Rattle.words.proofs.Drafting.{none_some, blank_none, blank_feeds, nodes_push, feeds_set, at_same, at_other, in_range_with, open_words}
 
-module _ (d : Draft) (s : Sound d) (open' : d.complete ≡ false) where
+module _ (d : Draft) (s : Sound d) (open' : d.output ≡ None) where
   g : Graph
   g = d.graph
 
   stands_open : Stands (drafted d) d.graph.count d.seen d.least false
-  stands_open = subst (Stands (drafted d) d.graph.count d.seen d.least) open' s.stands
+  stands_open = subst (λ o. Stands (drafted d) d.graph.count d.seen d.least (is_some o)) open' s.stands
 
   module _ (operation : ℕ) (l : d.seen < d.graph.count) (small : operation < byte) where
     node_new : Node
@@ -42,7 +42,7 @@ module _ (d : Draft) (s : Sound d) (open' : d.complete ≡ false) where
         ∙ ap (λ ws. node_words 0 (take d.seen d.graph.nodes) ++ (node_word d.seen operation ∷ ws)) f)
         ∙ ap (λ ws. ws ++ node_word d.seen operation ∷ []) (sym (open_words d open'))
 
-    pub node_sound : (w : ℕ) → kind_of w ≡ kind.Node → w ≡ node_word d.seen operation → Sound (node_read d operation)
+    pub node_sound : (w : ℕ) → kind_of w ≡ (Some kind.Node) → w ≡ node_word d.seen operation → Sound (node_read d operation)
     unfolding node_new
     node_sound w k e =
         let old = s.ranges.nodes d.seen (omega (arith, s.ranges.few)) in
@@ -55,9 +55,9 @@ module _ (d : Draft) (s : Sound d) (open' : d.complete ≡ false) where
           least = λ _ i j h m.
               let q : i ≡ d.seen = omega arith in
               ap (λ n. feed_at (node_read d operation).graph n j) q ∙ ap (λ (node : Node). get_or node.feeds j None) same ∙ ap (λ (node : Node). get_or node.feeds j None) was_blank ∙ blank_none j;
-          whole = λ h. absurd (both_ways d.complete open' h);
+          output = λ x h. absurd (none_some (sym open' ∙ h));
           stands =
-              subst (λ c. Stands (drafted (node_read d operation)) d.graph.count (d.seen + 1) 0 c) (sym open')
+              subst (λ o. Stands (drafted (node_read d operation)) d.graph.count (d.seen + 1) 0 (is_some o)) (sym open')
               (subst (λ ws. Stands ws d.graph.count (d.seen + 1) 0 false) p (stands_node (drafted d) d.graph.count d.seen d.least stands_open w k));
         }
 
@@ -111,7 +111,7 @@ module _ (d : Draft) (s : Sound d) (open' : d.complete ≡ false) where
         (λ (ne : j ≡ source → ⊥). olds j e (sym (get_or-set_other fs source j (Some delay) None ne) ∙ h))
         (cases_eq j source)
 
-    pub feed_sound : (w : ℕ) → kind_of w ≡ kind.Feed → field 0 6 w ≡ source → w ≡ feed_word source delay → Sound (feed_read d source delay)
+    pub feed_sound : (w : ℕ) → kind_of w ≡ (Some kind.Feed) → field 0 6 w ≡ source → w ≡ feed_word source delay → Sound (feed_read d source delay)
     unfolding feed_new
     feed_sound w k from e =
         let below : d.seen - 1 < d.graph.count = omega (arith, s.seen) in
@@ -133,9 +133,9 @@ module _ (d : Draft) (s : Sound d) (open' : d.complete ≡ false) where
               ap (λ n. feed_at (feed_read d source delay).graph n j) q
               ∙ ap (λ (node : Node). get_or node.feeds j None) (at_same d.graph s.ranges (d.seen - 1) below feed_new)
               ∙ get_or-set_other (node_at d.graph (d.seen - 1)).feeds source j (Some delay) None (λ r. omega arith) ∙ none_above j (omega arith);
-          whole = s.whole;
+          output = s.output;
           stands =
-              subst (λ c. Stands (drafted (feed_read d source delay)) d.graph.count d.seen (source + 1) c) (sym open')
+              subst (λ o. Stands (drafted (feed_read d source delay)) d.graph.count d.seen (source + 1) (is_some o)) (sym open')
               (subst (λ n. Stands (drafted (feed_read d source delay)) d.graph.count d.seen n false) next
               (subst (λ ws. Stands ws d.graph.count d.seen (suc (field 0 6 w)) false) p (stands_feed (drafted d) d.graph.count d.seen d.least stands_open w some k)));
         }
@@ -144,15 +144,15 @@ module _ (d : Draft) (s : Sound d) (open' : d.complete ≡ false) where
     pub output_drafted : drafted (output_read d output) ≡ drafted d ++ output_word output ∷ []
     output_drafted = ap (λ ws. ws ++ output_word output ∷ []) (sym (open_words d open'))
 
-    pub output_sound : (w : ℕ) → kind_of w ≡ kind.Output → w ≡ output_word output → Sound (output_read d output)
+    pub output_sound : (w : ℕ) → kind_of w ≡ (Some kind.Output) → w ≡ output_word output → Sound (output_read d output)
     output_sound w k e =
         let p : drafted d ++ w ∷ [] ≡ drafted (output_read d output) = ap (λ v. drafted d ++ v ∷ []) e ∙ sym output_drafted in
         let r = s.ranges in
         record {
-          ranges = record { some = r.some; few = r.few; table = r.table; nodes = r.nodes; rest = r.rest; output_node = node; output_delay = small };
+          ranges = r;
           seen = s.seen;
           rest = s.rest;
-          least = λ h. absurd (true≢false h);
-          whole = λ _. all;
+          least = λ h. absurd (none_some (sym h));
+          output = λ x h. let same : output ≡ x = cc in (all, subst (λ (o : Output). o.node < d.graph.count) same node, subst (λ (o : Output). o.delay < byte) same small);
           stands = subst (λ ws. Stands ws d.graph.count d.seen 0 true) p (stands_output (drafted d) d.graph.count d.seen d.least stands_open w (omega (arith, r.some)) k);
         }

@@ -1,14 +1,15 @@
 -- The draft of one word more.
-use Rattle.std.proofs.Common.{◌≡◌, ℕ, zero, suc, ◌+◌, ◌<◌, ◌≤◌, true, false, cond, List, [], ◌∷◌, ◌++◌, length, get_or, take, set, is_some, Some, None, Option, sym, refl, ap, ◌∙◌, subst, ⊎_elim, add-zero, add-suc, suc-add, arith}
+use Rattle.std.proofs.Common.{◌≡◌, ℕ, zero, suc, ◌⊎◌, inl, inr, ◌+◌, ◌<◌, ◌≤◌, false, List, [], ◌∷◌, ◌++◌, length, get_or, take, set, is_some, Some, None, Option, sym, refl, ap, ◌∙◌, subst, ⊎_elim, add-zero, add-suc, suc-add, arith}
 use Rattle.std.proofs.lemmas.List.{get_or-set_same, get_or-set_other, get_or_past, get_or-replicate, length-set, append-nil}
-use Rattle.std.proofs.lemmas.Bool.{cases_lt, cases_eq, true≢false, cases_Bool}
+use Rattle.std.proofs.lemmas.Bool.{cases_lt, cases_eq, true≢false}
 use Rattle.words.specs.declared.graph.Node.{Node}
+use Rattle.words.specs.declared.graph.Output.{Output}
 use Rattle.words.specs.declared.graph.Graph.{Graph}
 use Rattle.words.specs.declared.draft.Draft.{Draft}
 use Rattle.words.specs.Designs.{NodeInRange, InRange, blank, absent, node_at, sources}
-use Rattle.words.specs.Encoding.{head_word, node_word, feed_word, output_word, feed_words, node_words}
+use Rattle.words.specs.Encoding.{head_word, node_word, feed_word, output_word, feed_words, node_words, body}
 use Rattle.words.proofs.Encodings.{nodes_join}
-use Rattle.words.specs.Drafts.{drafted, Sound, with_node}
+use Rattle.words.specs.Drafts.{drafted, output_words, finished, Sound, with_node}
 
 -- a blank node has no feed words
 pub blank_none : (k : ℕ) → get_or blank.feeds k None ≡ None
@@ -79,8 +80,33 @@ module _ (g : Graph) (r : InRange g) (i : ℕ) (l : i < g.count) (node : Node) w
       }
 
 -- the words of a draft whose output is still to come
-pub open_words : (d : Draft) → d.complete ≡ false → drafted d ≡ head_word d.graph.count ∷ node_words 0 (take d.seen d.graph.nodes)
-open_words d e = ap (λ b. (head_word d.graph.count ∷ node_words 0 (take d.seen d.graph.nodes)) ++ cond b (output_word d.graph.output ∷ []) []) e ∙ append-nil _
+pub open_words : (d : Draft) → d.output ≡ None → drafted d ≡ head_word d.graph.count ∷ node_words 0 (take d.seen d.graph.nodes)
+open_words d e = ap (λ o. (head_word d.graph.count ∷ node_words 0 (take d.seen d.graph.nodes)) ++ output_words o) e ∙ append-nil _
 
-pub still_open : (d : Draft) → Sound d → d.seen < d.graph.count → d.complete ≡ false
-still_open d s l = ⊎_elim (λ (e : d.complete ≡ true). absurd (omega (arith, s.whole e))) (λ (e : d.complete ≡ false). e) (cases_Bool d.complete)
+-- an output is there or not
+pub output_cases : (o : Option Output) → (o ≡ None) ⊎ ((x : Output) × (o ≡ Some x))
+output_cases None = inl refl
+output_cases (Some x) = inr (x, refl)
+
+pub none_some : {x : Output} → ◌≡◌ {A = Option Output} None (Some x) → ⊥
+none_some e = true≢false (ap is_some (sym e))
+
+pub none_from : (o : Option Output) → is_some o ≡ false → o ≡ None
+none_from None h = refl
+none_from (Some x) h = absurd (true≢false h)
+
+pub still_open : (d : Draft) → Sound d → d.seen < d.graph.count → d.output ≡ None
+still_open d s l =
+    ⊎_elim (λ (e : d.output ≡ None). e) (λ (there : (x : Output) × (d.output ≡ Some x)). absurd (omega (arith, (s.output there.0 there.1).0))) (output_cases d.output)
+
+-- the design of a draft with its output
+pub finished_words : (d : Draft) → Sound d → (o : Output) → d.output ≡ Some o → drafted d ≡ body (finished d o)
+finished_words d s o e =
+    ap (λ x. (head_word d.graph.count ∷ node_words 0 (take d.seen d.graph.nodes)) ++ output_words x) e
+    ∙ ap (λ m. (head_word d.graph.count ∷ node_words 0 (take m d.graph.nodes)) ++ output_word o ∷ []) (s.output o e).0
+
+pub finished_in_range : (d : Draft) → Sound d → (o : Output) → d.output ≡ Some o → InRange (finished d o)
+finished_in_range d s o e =
+    let r = s.ranges in
+    let there = s.output o e in
+    record { some = r.some; few = r.few; table = r.table; nodes = r.nodes; rest = r.rest; output_node = there.1; output_delay = there.2 }

@@ -1,5 +1,5 @@
 -- How the words so far stand after one word more.
-use Rattle.std.proofs.Common.{◌≡◌, ℕ, suc, ◌+◌, ◌<◌, true, false, cond, ◌&&◌, ◌||◌, List, [], ◌∷◌, ◌++◌, length, sym, refl, ap, ◌∙◌, arith}
+use Rattle.std.proofs.Common.{◌≡◌, ℕ, suc, ◌+◌, ◌<◌, true, false, cond, ◌&&◌, ◌||◌, List, [], ◌∷◌, ◌++◌, length, sym, refl, ap, ◌∙◌, arith, Some, Option}
 use Rattle.std.proofs.lemmas.List.{length_push, get_or_push, get_or_append_left}
 use Rattle.std.proofs.lemmas.List.Sums.{sum_by_push}
 use Rattle.std.proofs.lemmas.Bool.{lt-ltb}
@@ -22,7 +22,7 @@ unfolding nodes_in
 push_nodes p w = sum_by_push (λ v. cond (is_node (kind_of v)) 1 0) p w
 
 -- what the questions see of the last word, by its kind
-module _ (p : List ℕ) (w : ℕ) (k : Kind) (e : kind_of w ≡ k) where
+module _ (p : List ℕ) (w : ℕ) (k : Option Kind) (e : kind_of w ≡ k) where
   last_kind : kind_of (last_word (p ++ w ∷ [])) ≡ k
   last_kind = ap kind_of (push_last p w) ∙ e
 
@@ -38,51 +38,51 @@ module _ (p : List ℕ) (w : ℕ) (k : Kind) (e : kind_of w ≡ k) where
   unfolding least_source
   push_least = ap (λ κ. cond (is_feed κ) (suc (field 0 6 (last_word (p ++ w ∷ [])))) 0) last_kind ∙ ap (λ v. cond (is_feed k) (suc (field 0 6 v)) 0) (push_last p w)
 
-pub stands_head : (w : ℕ) → kind_of w ≡ kind.Head → Stands (w ∷ []) (field 0 6 w) 0 0 false
+pub stands_head : (w : ℕ) → kind_of w ≡ (Some kind.Head) → Stands (w ∷ []) (field 0 6 w) 0 0 false
 unfolding count_of nodes_in in_node after_output least_source
 stands_head w e =
     record {
       some = omega arith;
       count = refl;
       nodes = push_nodes [] w ∙ ap (λ κ. 0 + cond (is_node κ) 1 0) e;
-      least = push_least [] w kind.Head e;
-      node = push_in_node [] w kind.Head e;
-      output = push_output [] w kind.Head e;
+      least = push_least [] w (Some kind.Head) e;
+      node = push_in_node [] w (Some kind.Head) e;
+      output = push_output [] w (Some kind.Head) e;
     }
 
 module _ (p : List ℕ) (n seen least : ℕ) (s : Stands p n seen least false) (w : ℕ) where
   some_more : 0 < length (p ++ w ∷ [])
   some_more = omega (arith, length_push p w)
 
-  pub stands_node : kind_of w ≡ kind.Node → Stands (p ++ w ∷ []) n (seen + 1) 0 false
+  pub stands_node : kind_of w ≡ (Some kind.Node) → Stands (p ++ w ∷ []) n (seen + 1) 0 false
   stands_node e =
       record {
         some = some_more;
         count = push_count p w s.some ∙ s.count;
         nodes = push_nodes p w ∙ ap (λ κ. nodes_in p + cond (is_node κ) 1 0) e ∙ ap (λ m. m + 1) s.nodes;
-        least = push_least p w kind.Node e;
-        node = push_in_node p w kind.Node e ∙ sym (ap (λ b. b && true) (lt-ltb 0 (seen + 1) (omega arith)));
-        output = push_output p w kind.Node e;
+        least = push_least p w (Some kind.Node) e;
+        node = push_in_node p w (Some kind.Node) e ∙ sym (ap (λ b. b && true) (lt-ltb 0 (seen + 1) (omega arith)));
+        output = push_output p w (Some kind.Node) e;
       }
 
-  pub stands_feed : 0 < seen → kind_of w ≡ kind.Feed → Stands (p ++ w ∷ []) n seen (suc (field 0 6 w)) false
+  pub stands_feed : 0 < seen → kind_of w ≡ (Some kind.Feed) → Stands (p ++ w ∷ []) n seen (suc (field 0 6 w)) false
   stands_feed h e =
       record {
         some = some_more;
         count = push_count p w s.some ∙ s.count;
         nodes = push_nodes p w ∙ ap (λ κ. nodes_in p + cond (is_node κ) 1 0) e ∙ ap (λ m. m + 0) s.nodes ∙ omega arith;
-        least = push_least p w kind.Feed e;
-        node = push_in_node p w kind.Feed e ∙ sym (ap (λ b. b && true) (lt-ltb 0 seen h));
-        output = push_output p w kind.Feed e;
+        least = push_least p w (Some kind.Feed) e;
+        node = push_in_node p w (Some kind.Feed) e ∙ sym (ap (λ b. b && true) (lt-ltb 0 seen h));
+        output = push_output p w (Some kind.Feed) e;
       }
 
-  pub stands_output : 0 < seen → kind_of w ≡ kind.Output → Stands (p ++ w ∷ []) n seen 0 true
+  pub stands_output : 0 < seen → kind_of w ≡ (Some kind.Output) → Stands (p ++ w ∷ []) n seen 0 true
   stands_output h e =
       record {
         some = some_more;
         count = push_count p w s.some ∙ s.count;
         nodes = push_nodes p w ∙ ap (λ κ. nodes_in p + cond (is_node κ) 1 0) e ∙ ap (λ m. m + 0) s.nodes ∙ omega arith;
-        least = push_least p w kind.Output e;
-        node = push_in_node p w kind.Output e ∙ sym (ap (λ b. b && false) (lt-ltb 0 seen h));
-        output = push_output p w kind.Output e;
+        least = push_least p w (Some kind.Output) e;
+        node = push_in_node p w (Some kind.Output) e ∙ sym (ap (λ b. b && false) (lt-ltb 0 seen h));
+        output = push_output p w (Some kind.Output) e;
       }

@@ -4,6 +4,8 @@ use Rattle.std.proofs.lemmas.List.{append-nil, length-append, length-drop, take_
 use Rattle.std.proofs.lemmas.Bool.{true≢false, cases_Bool, and_parts, eqb-true, cases_lt}
 use Rattle.words.specs.declared.faults.Fault.{Fault}
 use Rattle.words.specs.declared.graph.Node.{Node}
+use Rattle.words.specs.declared.graph.Output.{Output}
+use Rattle.words.specs.declared.graph.Graph.{Graph}
 use Rattle.words.specs.declared.draft.Draft.{Draft}
 use Rattle.words.specs.declared.kinds.Kind.{Kind}
 use Rattle.words.specs.declared.kinds.Kind.TheVariants as kind
@@ -12,9 +14,10 @@ use Rattle.words.specs.Fields.{field}
 use Rattle.words.specs.Refusals.{misplaced, out_of_range, wrong_end}
 use Rattle.words.specs.Encoding.{head_word, output_word, end_word, node_words, body, encoded}
 use Rattle.words.specs.Questions.{asked, asked_of, may_stand, fields_in_range, count_of, ends_well, refused_from, or_else}
-use Rattle.words.specs.Drafts.{drafted, Sound}
+use Rattle.words.specs.Designs.{InRange}
+use Rattle.words.specs.Drafts.{drafted, finished, Sound}
 use Rattle.words.specs.Reading.{Begins, StopsAt}
-use Rattle.words.proofs.Drafting.{open_words}
+use Rattle.words.proofs.Drafting.{open_words, output_cases, finished_words, finished_in_range}
 use Rattle.words.proofs.Encodings.{nodes_join}
 use Rattle.words.proofs.Walking.{encoded_passes}
 
@@ -32,36 +35,36 @@ tests_none false b d x y z h = absurd (true≢false (ap is_some h))
 
 -- the three that the end is put
 end_tests : (p : List ℕ) (w : ℕ) (after : List ℕ) →
-    asked_of p w after kind.End
-    ≡ tests (may_stand p kind.End) (eqb (unnamed w) 0 && fields_in_range (count_of p) w kind.End) (ends_well p w after kind.End) (wrong_end (length p)) (out_of_range (length p)) (misplaced (length p))
+    asked_of p w after (Some kind.End)
+    ≡ tests (may_stand p (Some kind.End)) (eqb (unnamed w) 0 && fields_in_range (count_of p) w (Some kind.End)) (ends_well p w after (Some kind.End)) (wrong_end (length p)) (out_of_range (length p)) (misplaced (length p))
 unfolding tests
 end_tests p w after = refl
 
-end_passed : (p : List ℕ) (w : ℕ) (after : List ℕ) → asked_of p w after kind.End ≡ None →
-    (may_stand p kind.End ≡ true) × ((eqb (unnamed w) 0 && fields_in_range (count_of p) w kind.End) ≡ true) × (ends_well p w after kind.End ≡ true)
+end_passed : (p : List ℕ) (w : ℕ) (after : List ℕ) → asked_of p w after (Some kind.End) ≡ None →
+    (may_stand p (Some kind.End) ≡ true) × ((eqb (unnamed w) 0 && fields_in_range (count_of p) w (Some kind.End)) ≡ true) × (ends_well p w after (Some kind.End) ≡ true)
 end_passed p w after h = tests_none _ _ _ _ _ _ (sym (end_tests p w after) ∙ h)
 
 neither : (o later : Option Fault) → or_else o later ≡ None → (o ≡ None) × (later ≡ None)
 neither None later h = (refl, h)
 neither (Some f) later h = absurd (true≢false (ap is_some h))
 
-end_kind : (k : Kind) → is_end k ≡ true → k ≡ kind.End
-end_kind kind.Head h = absurd (true≢false (sym h))
-end_kind kind.Node h = absurd (true≢false (sym h))
-end_kind kind.Feed h = absurd (true≢false (sym h))
-end_kind kind.Output h = absurd (true≢false (sym h))
-end_kind kind.End h = refl
-end_kind kind.Other h = absurd (true≢false (sym h))
+end_kind : (k : Option Kind) → is_end k ≡ true → k ≡ (Some kind.End)
+end_kind (Some kind.Head) h = absurd (true≢false (sym h))
+end_kind (Some kind.Node) h = absurd (true≢false (sym h))
+end_kind (Some kind.Feed) h = absurd (true≢false (sym h))
+end_kind (Some kind.Output) h = absurd (true≢false (sym h))
+end_kind (Some kind.End) h = refl
+end_kind None h = absurd (true≢false (sym h))
 
 -- only the end looks at the words after it
-differs : (p : List ℕ) (w : ℕ) (after later : List ℕ) (f : Fault) (k : Kind) → asked_of p w after k ≡ Some f → asked_of p w later k ≡ None →
+differs : (p : List ℕ) (w : ℕ) (after later : List ℕ) (f : Fault) (k : Option Kind) → asked_of p w after k ≡ Some f → asked_of p w later k ≡ None →
     (later ≡ []) × (0 < length after)
-differs p w after later f kind.Head a b = absurd (true≢false (ap is_some (sym a ∙ b)))
-differs p w after later f kind.Node a b = absurd (true≢false (ap is_some (sym a ∙ b)))
-differs p w after later f kind.Feed a b = absurd (true≢false (ap is_some (sym a ∙ b)))
-differs p w after later f kind.Output a b = absurd (true≢false (ap is_some (sym a ∙ b)))
-differs p w after later f kind.Other a b = absurd (true≢false (ap is_some (sym a ∙ b)))
-differs p w after later f kind.End a b =
+differs p w after later f (Some kind.Head) a b = absurd (true≢false (ap is_some (sym a ∙ b)))
+differs p w after later f (Some kind.Node) a b = absurd (true≢false (ap is_some (sym a ∙ b)))
+differs p w after later f (Some kind.Feed) a b = absurd (true≢false (ap is_some (sym a ∙ b)))
+differs p w after later f (Some kind.Output) a b = absurd (true≢false (ap is_some (sym a ∙ b)))
+differs p w after later f None a b = absurd (true≢false (ap is_some (sym a ∙ b)))
+differs p w after later f (Some kind.End) a b =
     let done = end_passed p w later b in
     let parts = and_parts (eqb (field 0 11 w) (length p + 1)) (eqb (length later) 0) done.2 in (
       nil_from_length later (eqb-true (length later) 0 parts.1),
@@ -69,9 +72,9 @@ differs p w after later f kind.End a b =
           (λ (l : 0 < length after). l)
           (λ (l : length after ≤ 0).
           let none : length after ≡ length later = omega (arith, eqb-true (length later) 0 parts.1) in
-          let same : asked_of p w after kind.End ≡ asked_of p w later kind.End =
+          let same : asked_of p w after (Some kind.End) ≡ asked_of p w later (Some kind.End) =
           end_tests p w after
-          ∙ ap (λ m. tests (may_stand p kind.End) (eqb (unnamed w) 0 && fields_in_range (count_of p) w kind.End) (eqb (field 0 11 w) (length p + 1) && eqb m 0) (wrong_end (length p)) (out_of_range (length p)) (misplaced (length p))) none
+          ∙ ap (λ m. tests (may_stand p (Some kind.End)) (eqb (unnamed w) 0 && fields_in_range (count_of p) w (Some kind.End)) (eqb (field 0 11 w) (length p + 1) && eqb m 0) (wrong_end (length p)) (out_of_range (length p)) (misplaced (length p))) none
           ∙ sym (end_tests p w later) in
           absurd (true≢false (ap is_some (sym a ∙ same ∙ b))))
           (cases_lt 0 (length after)),
@@ -85,26 +88,23 @@ inner q (v ∷ p) w later h =
     let parts = neither _ _ h in
     ⊎_elim
     (λ (t : is_end (kind_of v) ≡ true).
-    let e : asked_of q v (p ++ w ∷ later) kind.End ≡ None = ap (asked_of q v (p ++ w ∷ later)) (sym (end_kind (kind_of v) t)) ∙ parts.0 in
+    let e : asked_of q v (p ++ w ∷ later) (Some kind.End) ≡ None = ap (asked_of q v (p ++ w ∷ later)) (sym (end_kind (kind_of v) t)) ∙ parts.0 in
     let none = (and_parts (eqb (field 0 11 v) (length q + 1)) (eqb (length (p ++ w ∷ later)) 0) (end_passed q v (p ++ w ∷ later) e).2).1 in
     absurd (omega (arith, eqb-true (length (p ++ w ∷ later)) 0 none, length-append p (w ∷ later))))
     (λ (t : is_end (kind_of v) ≡ false).
     ap (λ r. asked r w later) (sym (append_assoc q (v ∷ []) p)) ∙ inner (q ++ v ∷ []) p w later (sym (ap (λ b. cond b None (refused_from (q ++ v ∷ []) (p ++ w ∷ later))) t) ∙ parts.1))
     (cases_Bool (is_end (kind_of v)))
 
--- a draft's words begin a design
+-- a draft's words begin a design: the one with its output, or with any while there is none
 pub begins : (d : Draft) → Sound d → Begins (drafted d)
 unfolding encoded
 begins d s =
     let h : ℕ = head_word d.graph.count in
+    let r : InRange d.graph = s.ranges in
+    ⊎_elim
+    (λ (c : d.output ≡ None).
     let o : ℕ = output_word d.graph.output in
     let e : ℕ = end_word (length (body d.graph) + 1) in
-    ⊎_elim
-    (λ (c : d.complete ≡ true).
-    let same : drafted d ≡ body d.graph =
-    ap (λ b. (h ∷ node_words 0 (take d.seen d.graph.nodes)) ++ cond b (o ∷ []) []) c ∙ ap (λ m. (h ∷ node_words 0 (take m d.graph.nodes)) ++ o ∷ []) (s.whole c) in
-    (d.graph, e ∷ [], s.ranges, ap (λ ws. ws ++ e ∷ []) (sym same)))
-    (λ (c : d.complete ≡ false).
     let front : List Node = take d.seen d.graph.nodes in
     let back : List Node = drop d.seen (take d.graph.count d.graph.nodes) in
     let split : take d.graph.count d.graph.nodes ≡ front ++ back =
@@ -112,13 +112,21 @@ begins d s =
     let more : List ℕ = node_words (0 + length front) back in (
       d.graph,
       more ++ (o ∷ (e ∷ [])),
-      s.ranges,
+      r,
       ap (λ ws. h ∷ ws)
           (ap (λ l. (node_words 0 l ++ o ∷ []) ++ e ∷ []) split ∙ ap (λ l. (l ++ o ∷ []) ++ e ∷ []) (nodes_join 0 front back)
           ∙ append_assoc (node_words 0 front ++ more) (o ∷ []) (e ∷ []) ∙ append_assoc (node_words 0 front) more (o ∷ (e ∷ [])))
           ∙ ap (λ ws. ws ++ (more ++ (o ∷ (e ∷ [])))) (sym (open_words d c)),
     ))
-    (cases_Bool d.complete)
+    (λ (there : (x : Output) × (d.output ≡ Some x)).
+    let g : Graph = finished d there.0 in
+    let e : ℕ = end_word (length (body g) + 1) in (
+      g,
+      e ∷ [],
+      finished_in_range d s there.0 there.1,
+      ap (λ ws. ws ++ e ∷ []) (sym (finished_words d s there.0 there.1)),
+    ))
+    (output_cases d.output)
 
 module _ (words : List ℕ) where
   -- at a word that is refused

@@ -28,7 +28,7 @@ abbrev Small : List (Option ℕ) → Type 0
 Small fs = (i d : ℕ) → get_or fs i None ≡ Some d → d < byte
 
 feed_kind : (j d : ℕ) → j < 64 → d < byte → is_feed (kind_of (feed_word j d)) ≡ true
-feed_kind j d l small = ap is_feed (kind_made kind.Feed (d * 2 ^ 6 + j) (omega arith))
+feed_kind j d l small = ap is_feed (kind_made (Some kind.Feed) (d * 2 ^ 6 + j) (omega arith))
 
 -- feeds from above j do not begin with one from j
 later : (fs : List (Option ℕ)) (k j e : ℕ) (ws rest : List ℕ) → j < k → k + length fs ≤ 64 → Small fs → e < byte → NoFeed ws →
@@ -68,7 +68,7 @@ module _ (n : ℕ) (few : n ≤ max_nodes) where
   no_feed : (i : ℕ) (nodes : List Node) (ws : List ℕ) → i + length nodes ≤ n → AllByRecursion (NodeInRange n) nodes → NoFeed ws → NoFeed (node_words i nodes ++ ws)
   unfolding node_words
   no_feed i [] ws room each none = none
-  no_feed i (node ∷ nodes) ws room each none = ap is_feed (kind_made kind.Node (node.operation * 2 ^ 5 + i) (omega (arith, each.0.operation)))
+  no_feed i (node ∷ nodes) ws room each none = ap is_feed (kind_made (Some kind.Node) (node.operation * 2 ^ 5 + i) (omega (arith, each.0.operation)))
 
   nodes_tell : (ns ms : List Node) (i : ℕ) (ws vs : List ℕ) → length ns ≡ length ms → i + length ns ≤ n → AllByRecursion (NodeInRange n) ns → AllByRecursion (NodeInRange n) ms → NoFeed ws → NoFeed vs →
       node_words i ns ++ ws ≡ node_words i ms ++ vs → (ns ≡ ms) × (ws ≡ vs)
@@ -103,8 +103,8 @@ encoded_tells g h r s q =
     let told =
     nodes_tell g.count r.few ns ms 0 (o ∷ (e ∷ [])) (p ∷ (f ∷ [])) (omega arith) (omega arith) (nodes_in_range g r)
     (subst (λ m. AllByRecursion (NodeInRange m) ms) (sym count) (nodes_in_range h s))
-    (ap is_feed (kind_made kind.Output (g.output.delay * 2 ^ 6 + g.output.node) (omega (arith, r.output_delay, r.output_node, r.few))))
-    (ap is_feed (kind_made kind.Output (h.output.delay * 2 ^ 6 + h.output.node) (omega (arith, s.output_delay, s.output_node, s.few)))) tails in
+    (ap is_feed (kind_made (Some kind.Output) (g.output.delay * 2 ^ 6 + g.output.node) (omega (arith, r.output_delay, r.output_node, r.few))))
+    (ap is_feed (kind_made (Some kind.Output) (h.output.delay * 2 ^ 6 + h.output.node) (omega (arith, s.output_delay, s.output_node, s.few)))) tails in
     let out : o ≡ p = first_same told.1 in
     let node : g.output.node ≡ h.output.node =
     sym (low_field 6 8 14 4 g.output.node g.output.delay refl (omega (arith, r.output_node, r.few)) r.output_delay) ∙ ap (field 0 6) out

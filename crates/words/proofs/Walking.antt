@@ -20,7 +20,7 @@ use Rattle.words.proofs.Asking.{allow}
 use Rattle.words.proofs.Encodings.{nodes_in_range, body_few}
 
 -- a word that passes hands on to the next
-pub passes : (p : List ℕ) (w : ℕ) (after : List ℕ) (k : Kind) → kind_of w ≡ k → is_end k ≡ false → asked p w after ≡ None →
+pub passes : (p : List ℕ) (w : ℕ) (after : List ℕ) (k : Option Kind) → kind_of w ≡ k → is_end k ≡ false → asked p w after ≡ None →
     refused_from p (w ∷ after) ≡ refused_from (p ++ w ∷ []) after
 unfolding refused_from
 passes p w after k e more none =
@@ -29,7 +29,7 @@ passes p w after k e more none =
     ∙ ap (λ b. cond b None (refused_from (p ++ w ∷ []) after)) more
 
 -- the unnamed bits of a word of a known kind
-clear_as : (w : ℕ) (k : Kind) → kind_of w ≡ k → field (named_bits k) (28 - named_bits k) w ≡ 0 → unnamed w ≡ 0
+clear_as : (w : ℕ) (k : Option Kind) → kind_of w ≡ k → field (named_bits k) (28 - named_bits k) w ≡ 0 → unnamed w ≡ 0
 clear_as w k e h = ap (λ κ. field (named_bits κ) (28 - named_bits κ) w) e ∙ h
 
 -- the words of a row of feeds
@@ -39,16 +39,16 @@ module _ (n seen : ℕ) (few : n ≤ max_nodes) (some : 0 < seen) where
   feed_passes p least j d s above small heard after =
       let place : j < sources =
       ⊎_elim (λ (l : ltb j n ≡ true). omega (arith, ltb-true j n l)) (λ (e : eqb j input ≡ true). omega (arith, eqb-true j input e)) (or_cases (ltb j n) (eqb j input) heard) in
-      let k : kind_of (feed_word j d) ≡ kind.Feed = kind_made kind.Feed (d * 2 ^ 6 + j) (omega arith) in
+      let k : kind_of (feed_word j d) ≡ (Some kind.Feed) = kind_made (Some kind.Feed) (d * 2 ^ 6 + j) (omega arith) in
       let from : field 0 6 (feed_word j d) ≡ j = low_field 6 8 14 3 j d refl (omega arith) small in
       let clear : field 14 14 (feed_word j d) ≡ 0 = clear_field 6 8 14 3 j d refl (omega arith) small in
       let none : asked p (feed_word j d) after ≡ None =
-      allow p (feed_word j d) after kind.Feed k (s.node ∙ ap (λ b. b && true) (lt-ltb 0 seen some))
-      (and_from _ _ (eq-eqb _ _ (clear_as (feed_word j d) kind.Feed k clear)) (ap (is_source (count_of p)) from ∙ ap (λ m. is_source m j) s.count ∙ heard))
+      allow p (feed_word j d) after (Some kind.Feed) k (s.node ∙ ap (λ b. b && true) (lt-ltb 0 seen some))
+      (and_from _ _ (eq-eqb _ _ (clear_as (feed_word j d) (Some kind.Feed) k clear)) (ap (is_source (count_of p)) from ∙ ap (λ m. is_source m j) s.count ∙ heard))
       (ap (λ m. leb m (field 0 6 (feed_word j d))) s.least ∙ ap (leb least) from ∙ le-leb least j above)
       refl in (
         subst (λ m. Stands (p ++ feed_word j d ∷ []) n seen (suc m) false) from (stands_feed p n seen least s (feed_word j d) some k),
-        passes p (feed_word j d) after kind.Feed k refl none,
+        passes p (feed_word j d) after (Some kind.Feed) k refl none,
       )
 
   pub feeds_pass : (fs : List (Option ℕ)) (p : List ℕ) (least j : ℕ) → Stands p n seen least false → least ≤ j →
@@ -72,15 +72,15 @@ module _ (n : ℕ) (few : n ≤ max_nodes) where
   node_passes : (p : List ℕ) (least i operation : ℕ) → Stands p n i least false → i < n → operation < byte → (after : List ℕ) →
       Stands (p ++ node_word i operation ∷ []) n (suc i) 0 false × (refused_from p (node_word i operation ∷ after) ≡ refused_from (p ++ node_word i operation ∷ []) after)
   node_passes p least i operation s l small after =
-      let k : kind_of (node_word i operation) ≡ kind.Node = kind_made kind.Node (operation * 2 ^ 5 + i) (omega arith) in
+      let k : kind_of (node_word i operation) ≡ (Some kind.Node) = kind_made (Some kind.Node) (operation * 2 ^ 5 + i) (omega arith) in
       let number : field 0 5 (node_word i operation) ≡ i = low_field 5 8 15 2 i operation refl (omega arith) small in
       let clear : field 13 15 (node_word i operation) ≡ 0 = clear_field 5 8 15 2 i operation refl (omega arith) small in
       let none : asked p (node_word i operation) after ≡ None =
-      allow p (node_word i operation) after kind.Node k (ap (λ m. ltb m (count_of p)) s.nodes ∙ ap (ltb i) s.count ∙ lt-ltb i n l)
-      (and_from _ _ (eq-eqb _ _ (clear_as (node_word i operation) kind.Node k clear)) (ap (λ m. ltb m (count_of p)) number ∙ ap (ltb i) s.count ∙ lt-ltb i n l))
+      allow p (node_word i operation) after (Some kind.Node) k (ap (λ m. ltb m (count_of p)) s.nodes ∙ ap (ltb i) s.count ∙ lt-ltb i n l)
+      (and_from _ _ (eq-eqb _ _ (clear_as (node_word i operation) (Some kind.Node) k clear)) (ap (λ m. ltb m (count_of p)) number ∙ ap (ltb i) s.count ∙ lt-ltb i n l))
       (eq-eqb _ _ (number ∙ sym s.nodes)) refl in (
         subst (λ m. Stands (p ++ node_word i operation ∷ []) n m 0 false) (add-one i) (stands_node p n i least s (node_word i operation) k),
-        passes p (node_word i operation) after kind.Node k refl none,
+        passes p (node_word i operation) after (Some kind.Node) k refl none,
       )
 
   pub nodes_pass : (nodes : List Node) (p : List ℕ) (least i : ℕ) → Stands p n i least false → i + length nodes ≤ n → AllByRecursion (NodeInRange n) nodes → (after : List ℕ) →
@@ -107,35 +107,35 @@ module _ (n : ℕ) (few : n ≤ max_nodes) where
 head_passes : (n : ℕ) → 1 ≤ n → n ≤ max_nodes → (after : List ℕ) →
     Stands (head_word n ∷ []) n 0 0 false × (refused_from [] (head_word n ∷ after) ≡ refused_from (head_word n ∷ []) after)
 head_passes n some few after =
-    let k : kind_of (head_word n) ≡ kind.Head = kind_made kind.Head n (omega arith) in
+    let k : kind_of (head_word n) ≡ (Some kind.Head) = kind_made (Some kind.Head) n (omega arith) in
     let count : field 0 6 (head_word n) ≡ n = low_only 6 22 1 n refl (omega arith) in
     let clear : field 6 22 (head_word n) ≡ 0 = clear_only 6 22 1 n refl (omega arith) in
     let none : asked [] (head_word n) after ≡ None =
-    allow [] (head_word n) after kind.Head k refl
-    (and_from _ _ (eq-eqb _ _ (clear_as (head_word n) kind.Head k clear)) (ap (λ m. leb 1 m && leb m max_nodes) count ∙ and_from _ _ (le-leb 1 n some) (le-leb n max_nodes few))) refl refl in
-    (subst (λ m. Stands (head_word n ∷ []) m 0 0 false) count (stands_head (head_word n) k), passes [] (head_word n) after kind.Head k refl none)
+    allow [] (head_word n) after (Some kind.Head) k refl
+    (and_from _ _ (eq-eqb _ _ (clear_as (head_word n) (Some kind.Head) k clear)) (ap (λ m. leb 1 m && leb m max_nodes) count ∙ and_from _ _ (le-leb 1 n some) (le-leb n max_nodes few))) refl refl in
+    (subst (λ m. Stands (head_word n ∷ []) m 0 0 false) count (stands_head (head_word n) k), passes [] (head_word n) after (Some kind.Head) k refl none)
 
 output_passes : (p : List ℕ) (n least : ℕ) (o : Output) → Stands p n n least false → 1 ≤ n → n ≤ max_nodes → o.node < n → o.delay < byte → (after : List ℕ) →
     Stands (p ++ output_word o ∷ []) n n 0 true × (refused_from p (output_word o ∷ after) ≡ refused_from (p ++ output_word o ∷ []) after)
 output_passes p n least o s some few l small after =
-    let k : kind_of (output_word o) ≡ kind.Output = kind_made kind.Output (o.delay * 2 ^ 6 + o.node) (omega arith) in
+    let k : kind_of (output_word o) ≡ (Some kind.Output) = kind_made (Some kind.Output) (o.delay * 2 ^ 6 + o.node) (omega arith) in
     let node : field 0 6 (output_word o) ≡ o.node = low_field 6 8 14 4 o.node o.delay refl (omega arith) small in
     let clear : field 14 14 (output_word o) ≡ 0 = clear_field 6 8 14 4 o.node o.delay refl (omega arith) small in
     let none : asked p (output_word o) after ≡ None =
-    allow p (output_word o) after kind.Output k
+    allow p (output_word o) after (Some kind.Output) k
     (and_from _ _ (s.node ∙ ap (λ b. b && true) (lt-ltb 0 n some)) (eq-eqb _ _ (s.nodes ∙ sym s.count)))
-    (and_from _ _ (eq-eqb _ _ (clear_as (output_word o) kind.Output k clear)) (ap (λ m. ltb m (count_of p)) node ∙ ap (ltb o.node) s.count ∙ lt-ltb o.node n l)) refl refl in
-    (stands_output p n n least s (output_word o) some k, passes p (output_word o) after kind.Output k refl none)
+    (and_from _ _ (eq-eqb _ _ (clear_as (output_word o) (Some kind.Output) k clear)) (ap (λ m. ltb m (count_of p)) node ∙ ap (ltb o.node) s.count ∙ lt-ltb o.node n l)) refl refl in
+    (stands_output p n n least s (output_word o) some k, passes p (output_word o) after (Some kind.Output) k refl none)
 
 end_passes : (p : List ℕ) (n seen least : ℕ) → Stands p n seen least true → length p ≤ 1090 → refused_from p (end_word (length p + 1) ∷ []) ≡ None
 unfolding refused_from
 end_passes p n seen least s few =
     let w : ℕ = end_word (length p + 1) in
-    let k : kind_of w ≡ kind.End = kind_made kind.End (length p + 1) (omega arith) in
+    let k : kind_of w ≡ (Some kind.End) = kind_made (Some kind.End) (length p + 1) (omega arith) in
     let count : field 0 11 w ≡ length p + 1 = low_only 11 17 5 (length p + 1) refl (omega arith) in
     let clear : field 11 17 w ≡ 0 = clear_only 11 17 5 (length p + 1) refl (omega arith) in
     let none : asked p w [] ≡ None =
-    allow p w [] kind.End k s.output (and_from _ _ (eq-eqb _ _ (clear_as w kind.End k clear)) refl) refl (and_from _ _ (eq-eqb _ _ count) refl) in
+    allow p w [] (Some kind.End) k s.output (and_from _ _ (eq-eqb _ _ (clear_as w (Some kind.End) k clear)) refl) refl (and_from _ _ (eq-eqb _ _ count) refl) in
     ap (λ o. or_else o (cond (is_end (kind_of w)) None (refused_from (p ++ w ∷ []) []))) none ∙ ap (λ κ. cond (is_end κ) None (refused_from (p ++ w ∷ []) [])) k
 
 -- the law: nothing of a design's encoding is refused

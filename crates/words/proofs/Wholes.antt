@@ -1,5 +1,5 @@
 -- A word is made of its kind and its fields, and falls into them again.
-use Rattle.std.proofs.Common.{◌≡◌, ℕ, ◌+◌, ◌*◌, ◌/◌, ◌%◌, ◌^◌, ◌<◌, sym, refl, ap, ◌∙◌, add-zero, add_assoc, mod-eq_of_lt, mul_assoc, add-mul, zero-add, zero-mul, div-one, arith}
+use Rattle.std.proofs.Common.{◌≡◌, ℕ, ◌+◌, ◌*◌, ◌/◌, ◌%◌, ◌^◌, ◌<◌, sym, refl, ap, ◌∙◌, add-zero, add_assoc, mod-eq_of_lt, mul_assoc, add-mul, zero-add, zero-mul, div-one, arith, Some, None, Option}
 use native.Mathlib.Nat.{mod-one}
 use Rattle.std.proofs.lemmas.Nat.{shr-shr, shr_below, shr_split, shr_high, mod_low, pow-add, pow_pos}
 use Rattle.std.proofs.lemmas.Bool.Decides.{nat_tests}
@@ -64,34 +64,34 @@ module _ (a c k x : ℕ) (sum : a + c ≡ 28) (low : x < 2 ^ a) where
       ap (λ n. field n c (word_of k x)) (sym (add-zero a)) ∙ ap (field (a + 0) c) (sym alone) ∙ clear_field a 0 c k x 0 (ap (λ n. n + c) (add-zero a) ∙ sum) low (omega arith)
 
 -- a word's kind is the one that it was made with
-pub kind_made : (k : Kind) (x : ℕ) → x < 2 ^ 28 → kind_of (word_of (number_of k) x) ≡ k
+pub kind_made : (k : Option Kind) (x : ℕ) → x < 2 ^ 28 → kind_of (word_of (number_of k) x) ≡ k
 unfolding kind_numbered
 kind_made k x h = ap kind_numbered (numbered k) ∙ back k
   where
-    small : (κ : Kind) → number_of κ < 16
-    small kind.Head = omega arith
-    small kind.Node = omega arith
-    small kind.Feed = omega arith
-    small kind.Output = omega arith
-    small kind.End = omega arith
-    small kind.Other = omega arith
+    small : (κ : Option Kind) → number_of κ < 16
+    small (Some kind.Head) = omega arith
+    small (Some kind.Node) = omega arith
+    small (Some kind.Feed) = omega arith
+    small (Some kind.Output) = omega arith
+    small (Some kind.End) = omega arith
+    small None = omega arith
 
-    numbered : (κ : Kind) → kind_number (word_of (number_of κ) x) ≡ number_of κ
+    numbered : (κ : Option Kind) → kind_number (word_of (number_of κ) x) ≡ number_of κ
     numbered κ = omega (arith, small κ)
 
-    back : (κ : Kind) → kind_numbered (number_of κ) ≡ κ
-    back kind.Head = refl
-    back kind.Node = refl
-    back kind.Feed = refl
-    back kind.Output = refl
-    back kind.End = refl
-    back kind.Other = refl
+    back : (κ : Option Kind) → kind_numbered (number_of κ) ≡ κ
+    back (Some kind.Head) = refl
+    back (Some kind.Node) = refl
+    back (Some kind.Feed) = refl
+    back (Some kind.Output) = refl
+    back (Some kind.End) = refl
+    back None = refl
 
 -- a word of a design's kind has that kind's number
-pub kind_found : (w : ℕ) (k : Kind) → kind_of w ≡ k → 0 < number_of k → kind_number w ≡ number_of k
+pub kind_found : (w : ℕ) (k : Option Kind) → kind_of w ≡ k → 0 < number_of k → kind_number w ≡ number_of k
 unfolding kind_numbered
 kind_found w k e h =
     let n : ℕ = kind_number w in
-    let z : ◌≡◌ {A = Kind} (kind_numbered n) k = e in
+    let z : ◌≡◌ {A = Option Kind} (kind_numbered n) k = e in
     let m : number_of (kind_numbered n) ≡ number_of k = ap number_of e in
     grind (arith, nat_tests)

@@ -1,65 +1,56 @@
 -- The kinds of design words.
-use Rattle.std.specs.Prelude.{ℕ, ◌-◌, Bool, true, false, cond, ◌==◌}
+use Rattle.std.specs.Prelude.{ℕ, ◌-◌, Bool, cond, ◌==◌, Some, None, Option, Ok, Err, Result}
+use Rattle.words.specs.declared.faults.WordsQuestion.{WordsQuestion}
+use Rattle.words.specs.declared.faults.WordsQuestion.TheVariants as question
 use Rattle.words.specs.declared.kinds.Kind.{Kind}
 use Rattle.words.specs.declared.kinds.Kind.TheVariants as kind
 use Rattle.words.specs.Fields.{field, kind_number}
 
 -- the number that stands in bits 31 to 28
-abbrev pub number_of : Kind → ℕ
-number_of kind.Head = 1
-number_of kind.Node = 2
-number_of kind.Feed = 3
-number_of kind.Output = 4
-number_of kind.End = 5
-number_of kind.Other = 0
+abbrev pub number_of : Option Kind → ℕ
+number_of (Some kind.Head) = 1
+number_of (Some kind.Node) = 2
+number_of (Some kind.Feed) = 3
+number_of (Some kind.Output) = 4
+number_of (Some kind.End) = 5
+number_of None = 0
 
-unfoldable pub kind_numbered : ℕ → Kind
+unfoldable pub kind_numbered : ℕ → Option Kind
 kind_numbered k =
-    cond (k == 1) kind.Head (cond (k == 2) kind.Node (cond (k == 3) kind.Feed (cond (k == 4) kind.Output (cond (k == 5) kind.End kind.Other))))
+    cond (k == 1) (Some kind.Head) (cond (k == 2) (Some kind.Node) (cond (k == 3) (Some kind.Feed) (cond (k == 4) (Some kind.Output) (cond (k == 5) (Some kind.End) None))))
 
-abbrev pub kind_of : ℕ → Kind
+abbrev pub kind_of : ℕ → Option Kind
 kind_of w = kind_numbered (kind_number w)
 
+-- a kind where there is one, and else the question whether it may stand
+abbrev pub known : Option Kind → Result Kind WordsQuestion
+known None = Err question.Kind
+known (Some k) = Ok k
+
 -- how many bits at a word's low end are named; those from there up to bit 27 are not
-abbrev pub named_bits : Kind → ℕ
-named_bits kind.Head = 6
-named_bits kind.Node = 13
-named_bits kind.Feed = 14
-named_bits kind.Output = 14
-named_bits kind.End = 11
-named_bits kind.Other = 0
+abbrev pub named_bits : Option Kind → ℕ
+named_bits (Some kind.Head) = 6
+named_bits (Some kind.Node) = 13
+named_bits (Some kind.Feed) = 14
+named_bits (Some kind.Output) = 14
+named_bits (Some kind.End) = 11
+named_bits None = 0
 
 abbrev pub unnamed : ℕ → ℕ
 unnamed w = field (named_bits (kind_of w)) (28 - named_bits (kind_of w)) w
 
-abbrev pub is_node : Kind → Bool
-is_node kind.Head = false
-is_node kind.Node = true
-is_node kind.Feed = false
-is_node kind.Output = false
-is_node kind.End = false
-is_node kind.Other = false
+-- whether a word's kind is that one
+abbrev pub is_kind : Kind → Option Kind → Bool
+is_kind wanted k = number_of k == number_of (Some wanted)
 
-abbrev pub is_feed : Kind → Bool
-is_feed kind.Head = false
-is_feed kind.Node = false
-is_feed kind.Feed = true
-is_feed kind.Output = false
-is_feed kind.End = false
-is_feed kind.Other = false
+abbrev pub is_node : Option Kind → Bool
+is_node = is_kind kind.Node
 
-abbrev pub is_output : Kind → Bool
-is_output kind.Head = false
-is_output kind.Node = false
-is_output kind.Feed = false
-is_output kind.Output = true
-is_output kind.End = false
-is_output kind.Other = false
+abbrev pub is_feed : Option Kind → Bool
+is_feed = is_kind kind.Feed
 
-abbrev pub is_end : Kind → Bool
-is_end kind.Head = false
-is_end kind.Node = false
-is_end kind.Feed = false
-is_end kind.Output = false
-is_end kind.End = true
-is_end kind.Other = false
+abbrev pub is_output : Option Kind → Bool
+is_output = is_kind kind.Output
+
+abbrev pub is_end : Option Kind → Bool
+is_end = is_kind kind.End

@@ -9,4 +9,5 @@ pub mod Refusals
 pub mod Questions
 pub mod Drafts
 pub mod Reading
+pub mod Taking
 pub mod Bytes

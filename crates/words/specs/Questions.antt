@@ -32,43 +32,43 @@ unfoldable pub least_source : List ℕ → ℕ
 least_source before = cond (is_feed (kind_of (last_word before))) (suc (field 0 6 (last_word before))) 0
 
 -- 2: may a word of that kind stand here? A node may while one is missing, the output when none is.
-abbrev pub may_stand : List ℕ → Kind → Bool
-may_stand before kind.Head = length before == 0
-may_stand before kind.Node = nat_lt (nodes_in before) (count_of before)
-may_stand before kind.Feed = in_node before
-may_stand before kind.Output = in_node before && nodes_in before == count_of before
-may_stand before kind.End = after_output before
-may_stand before kind.Other = false
+abbrev pub may_stand : List ℕ → Option Kind → Bool
+may_stand before (Some kind.Head) = length before == 0
+may_stand before (Some kind.Node) = nat_lt (nodes_in before) (count_of before)
+may_stand before (Some kind.Feed) = in_node before
+may_stand before (Some kind.Output) = in_node before && nodes_in before == count_of before
+may_stand before (Some kind.End) = after_output before
+may_stand before None = false
 
 -- 3: are its fields in range, in a design of n nodes?
-abbrev pub fields_in_range : ℕ → ℕ → Kind → Bool
-fields_in_range n w kind.Head = nat_le 1 (field 0 6 w) && nat_le (field 0 6 w) max_nodes
-fields_in_range n w kind.Node = nat_lt (field 0 5 w) n
-fields_in_range n w kind.Feed = is_source n (field 0 6 w)
-fields_in_range n w kind.Output = nat_lt (field 0 6 w) n
-fields_in_range n w kind.End = true
-fields_in_range n w kind.Other = true
+abbrev pub fields_in_range : ℕ → ℕ → Option Kind → Bool
+fields_in_range n w (Some kind.Head) = nat_le 1 (field 0 6 w) && nat_le (field 0 6 w) max_nodes
+fields_in_range n w (Some kind.Node) = nat_lt (field 0 5 w) n
+fields_in_range n w (Some kind.Feed) = is_source n (field 0 6 w)
+fields_in_range n w (Some kind.Output) = nat_lt (field 0 6 w) n
+fields_in_range n w (Some kind.End) = true
+fields_in_range n w None = true
 
 -- 4: is a node the next in order, a feed's source above the last one of its node?
-abbrev pub in_order : List ℕ → ℕ → Kind → Bool
-in_order before w kind.Head = true
-in_order before w kind.Node = field 0 5 w == nodes_in before
-in_order before w kind.Feed = nat_le (least_source before) (field 0 6 w)
-in_order before w kind.Output = true
-in_order before w kind.End = true
-in_order before w kind.Other = true
+abbrev pub in_order : List ℕ → ℕ → Option Kind → Bool
+in_order before w (Some kind.Head) = true
+in_order before w (Some kind.Node) = field 0 5 w == nodes_in before
+in_order before w (Some kind.Feed) = nat_le (least_source before) (field 0 6 w)
+in_order before w (Some kind.Output) = true
+in_order before w (Some kind.End) = true
+in_order before w None = true
 
 -- 5: at the end, is its count right, and is it the last given?
-abbrev pub ends_well : List ℕ → ℕ → List ℕ → Kind → Bool
-ends_well before w after kind.Head = true
-ends_well before w after kind.Node = true
-ends_well before w after kind.Feed = true
-ends_well before w after kind.Output = true
-ends_well before w after kind.End = field 0 11 w == length before + 1 && length after == 0
-ends_well before w after kind.Other = true
+abbrev pub ends_well : List ℕ → ℕ → List ℕ → Option Kind → Bool
+ends_well before w after (Some kind.Head) = true
+ends_well before w after (Some kind.Node) = true
+ends_well before w after (Some kind.Feed) = true
+ends_well before w after (Some kind.Output) = true
+ends_well before w after (Some kind.End) = field 0 11 w == length before + 1 && length after == 0
+ends_well before w after None = true
 
 -- what is refused at a word of that kind: the first question answered no
-abbrev pub asked_of : List ℕ → ℕ → List ℕ → Kind → Option Fault
+abbrev pub asked_of : List ℕ → ℕ → List ℕ → Option Kind → Option Fault
 asked_of before w after k =
     cond (may_stand before k)
     (cond (unnamed w == 0 && fields_in_range (count_of before) w k)

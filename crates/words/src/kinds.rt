@@ -2,17 +2,18 @@
 
 ghost use Rattle.std.specs.Prelude.{◌≡◌, ◌-◌, ◌<◌, ◌==◌};
 ghost use Rattle.words.specs.Fields.{field};
-ghost use Rattle.words.specs.Kinds.{kind_of, named_bits};
+ghost use Rattle.words.specs.Kinds.{kind_of, known, named_bits};
 
-/// The kinds of design words, by bits 31 to 28; `Other` is every number that no design word has.
-#[derive(Clone, Copy)]
+use crate::faults::WordsQuestion;
+
+/// The kinds of design words, by bits 31 to 28.
+#[derive(Clone, Copy, PartialEq, Eq, Debug)]
 pub enum Kind {
-    Head,
-    Node,
-    Feed,
-    Output,
-    End,
-    Other,
+    Head = 1,
+    Node = 2,
+    Feed = 3,
+    Output = 4,
+    End = 5,
 }
 
 /// The number in the `bits` bits of a word from bit `low` on.
@@ -23,37 +24,40 @@ pub(crate) fn field_of(word: u32, low: u32, bits: u32) -> u32
     (word >> low) & ((1 << bits) - 1)
 }
 
-impl Kind {
-    /// The kind of a word.
-    pub(crate) fn of(word: u32) -> Kind
-        ensures { result ≡ kind_of word }
-    {
+impl TryFrom<u32> for Kind {
+    type Error = WordsQuestion;
+
+    ghost try_from_gives = { λ word r. r ≡ known (kind_of word) };
+
+    /// The kind of a word, which may stand nowhere if no design word has its number.
+    fn try_from(word: u32) -> Result<Kind, WordsQuestion> {
         match field_of(word, 28, 4) {
-            1 => Kind::Head,
-            2 => Kind::Node,
-            3 => Kind::Feed,
-            4 => Kind::Output,
-            5 => Kind::End,
-            _ => Kind::Other,
+            1 => Ok(Kind::Head),
+            2 => Ok(Kind::Node),
+            3 => Ok(Kind::Feed),
+            4 => Ok(Kind::Output),
+            5 => Ok(Kind::End),
+            _ => Err(WordsQuestion::Kind),
         }
     }
+}
 
+impl Kind {
     /// How many bits at the low end of a word of this kind are named.
     fn named_bits(self) -> u32
-        ensures { result ≡ named_bits self }
+        ensures { result ≡ named_bits (Some self) }
     {
         match self {
             Kind::Head => 6,
             Kind::Node => 13,
             Kind::Feed | Kind::Output => 14,
             Kind::End => 11,
-            Kind::Other => 0,
         }
     }
 
     /// Whether the unnamed bits of a word of this kind are zero.
     pub(crate) fn is_clear(self, word: u32) -> bool
-        ensures { result ≡ (field (named_bits self) (28 - named_bits self) word == 0) }
+        ensures { result ≡ (field (named_bits (Some self)) (28 - named_bits (Some self)) word == 0) }
     {
         let named = self.named_bits();
         field_of(word, named, 28 - named) == 0

@@ -1,9 +1,10 @@
 //! Reading design words: the questions at each word in turn.
 
-ghost use Rattle.std.specs.Prelude.{◌≡◌, ◌^◌, ◌<◌, ◌≤◌, false, length};
+ghost use Rattle.std.specs.Prelude.{◌≡◌, ◌<◌, false, length};
 ghost use Rattle.words.specs.Kinds.{kind_of, is_end};
 ghost use Rattle.words.specs.Designs.{is_source};
-ghost use Rattle.words.specs.Drafts.{drafted, Sound, Taken, headed, Begun, Ended};
+ghost use Rattle.words.specs.Drafts.{headed};
+ghost use Rattle.words.specs.Taking.{Begun, Taken, Ended, Read};
 ghost use Rattle.words.specs.Reading.{Reads, ReadsBack};
 
 use crate::design::Design;
@@ -11,6 +12,25 @@ use crate::draft::Draft;
 use crate::faults::{Fault, WordsQuestion};
 use crate::graph::{Graph, INPUT, MAX_NODES, Node, Output, SOURCES};
 use crate::kinds::{Kind, field_of};
+use std::marker::Model;
+
+/// A design whose words are being read. It is seen as the words so far.
+#[derive(Drop)]
+struct Reader {
+    draft: Draft,
+}
+
+impl Model for Reader {
+    ghost use Rattle.std.specs.Prelude.{ℕ, List};
+
+    ghost Value = { List ℕ };
+
+    ghost use Rattle.words.specs.Drafts.{drafted, Sound};
+
+    ghost view = { λ r. drafted r.draft };
+
+    ghost invariant = { λ r. Sound r.draft };
+}
 
 impl Draft {
     /// A design of `count` nodes, of which none was read yet.
@@ -28,140 +48,159 @@ impl Draft {
             },
             seen: 0,
             least: 0,
-            complete: false,
+            output: None,
         }
     }
+}
 
-    /// Reads the head word.
-    fn begin(words: &[u32]) -> Result<Draft, Fault>
-        ensures { Begun words.now result }
+impl Graph {
+    /// Whether a number is one of the nodes or the input.
+    fn has_source(&self, source: usize) -> bool
+        ensures { result ≡ is_source self.now.count source }
     {
-        if words.len() == 0 {
-            return Err(WordsQuestion::Word.at(0));
-        }
-        let word = words[0];
-        match Kind::of(word) {
-            Kind::Head => {}
-            _ => return Err(WordsQuestion::Kind.at(0)),
+        source < self.count || source == INPUT
+    }
+}
+
+impl Reader {
+    /// Reads the head word.
+    fn begin(word: u32) -> Result<Reader, WordsQuestion>
+        ensures { Begun word result }
+    {
+        if Kind::try_from(word)? != Kind::Head {
+            return Err(WordsQuestion::Kind);
         }
         let count = field_of(word, 0, 6) as usize;
         if !Kind::Head.is_clear(word) || count < 1 || count > MAX_NODES {
-            return Err(WordsQuestion::Range.at(0));
+            return Err(WordsQuestion::Range);
         }
-        Ok(Draft::headed(count))
+        Ok(Reader {
+            draft: Draft::headed(count),
+        })
     }
 
     /// Takes a node word.
-    fn node(&mut self, word: u32, index: usize) -> Result<(), Fault>
-        requires sound { Sound self.old }
-        requires kind { kind_of word ≡ Kind.Node }
-        requires index { index ≡ length (drafted self.old) }
+    fn node(&mut self, word: u32) -> Result<(), WordsQuestion>
+        requires { kind_of word ≡ Some Kind.Node }
         ensures { Taken self.old self.new word result }
     {
-        if self.seen >= self.graph.count {
-            return Err(WordsQuestion::Kind.at(index));
+        let draft = &mut self.draft;
+        if draft.seen >= draft.graph.count {
+            return Err(WordsQuestion::Kind);
         }
         let number = field_of(word, 0, 5) as usize;
-        if !Kind::Node.is_clear(word) || number >= self.graph.count {
-            return Err(WordsQuestion::Range.at(index));
+        if !Kind::Node.is_clear(word) || number >= draft.graph.count {
+            return Err(WordsQuestion::Range);
         }
-        if number != self.seen {
-            return Err(WordsQuestion::Order.at(index));
+        if number != draft.seen {
+            return Err(WordsQuestion::Order);
         }
-        self.graph.nodes[self.seen].operation = field_of(word, 5, 8) as u8;
-        self.seen += 1;
-        self.least = 0;
+        draft.graph.nodes[draft.seen].operation = field_of(word, 5, 8) as u8;
+        draft.seen += 1;
+        draft.least = 0;
         Ok(())
     }
 
     /// Takes a feed word.
-    fn feed(&mut self, word: u32, index: usize) -> Result<(), Fault>
-        requires sound { Sound self.old }
-        requires kind { kind_of word ≡ Kind.Feed }
-        requires index { index ≡ length (drafted self.old) }
+    fn feed(&mut self, word: u32) -> Result<(), WordsQuestion>
+        requires { kind_of word ≡ Some Kind.Feed }
         ensures { Taken self.old self.new word result }
     {
-        if self.seen == 0 || self.complete {
-            return Err(WordsQuestion::Kind.at(index));
+        let draft = &mut self.draft;
+        if draft.seen == 0 || draft.output.is_some() {
+            return Err(WordsQuestion::Kind);
         }
         let source = field_of(word, 0, 6) as usize;
-        if !Kind::Feed.is_clear(word) || !self.has_source(source) {
-            return Err(WordsQuestion::Range.at(index));
+        if !Kind::Feed.is_clear(word) || !draft.graph.has_source(source) {
+            return Err(WordsQuestion::Range);
         }
-        if source < self.least {
-            return Err(WordsQuestion::Order.at(index));
+        if source < draft.least {
+            return Err(WordsQuestion::Order);
         }
-        self.graph.nodes[self.seen - 1].feeds[source] = Some(field_of(word, 6, 8) as u8);
-        self.least = source + 1;
+        draft.graph.nodes[draft.seen - 1].feeds[source] = Some(field_of(word, 6, 8) as u8);
+        draft.least = source + 1;
         Ok(())
     }
 
-    /// Whether a number is one of the design's nodes or the input.
-    fn has_source(&self, source: usize) -> bool
-        ensures { result ≡ is_source self.now.graph.count source }
-    {
-        source < self.graph.count || source == INPUT
-    }
-
     /// Takes the output word.
-    fn output(&mut self, word: u32, index: usize) -> Result<(), Fault>
-        requires sound { Sound self.old }
-        requires kind { kind_of word ≡ Kind.Output }
-        requires index { index ≡ length (drafted self.old) }
+    fn output(&mut self, word: u32) -> Result<(), WordsQuestion>
+        requires { kind_of word ≡ Some Kind.Output }
         ensures { Taken self.old self.new word result }
     {
-        if self.seen != self.graph.count || self.complete {
-            return Err(WordsQuestion::Kind.at(index));
+        let draft = &mut self.draft;
+        if draft.seen != draft.graph.count || draft.output.is_some() {
+            return Err(WordsQuestion::Kind);
         }
         let node = field_of(word, 0, 6) as usize;
-        if !Kind::Output.is_clear(word) || node >= self.graph.count {
-            return Err(WordsQuestion::Range.at(index));
+        if !Kind::Output.is_clear(word) || node >= draft.graph.count {
+            return Err(WordsQuestion::Range);
         }
         let delay = field_of(word, 6, 8) as u8;
-        self.graph.output = Output { node, delay };
-        self.least = 0;
-        self.complete = true;
+        draft.least = 0;
+        draft.output = Some(Output { node, delay });
         Ok(())
     }
 
     /// Takes a word that is not the end.
-    fn take(&mut self, kind: Kind, word: u32, index: usize) -> Result<(), Fault>
-        requires sound { Sound self.old }
-        requires kind { kind_of word ≡ kind }
-        requires more { is_end kind ≡ false }
-        requires index { index ≡ length (drafted self.old) }
+    fn take(&mut self, kind: Kind, word: u32) -> Result<(), WordsQuestion>
+        requires kind { kind_of word ≡ Some kind }
+        requires more { is_end (Some kind) ≡ false }
+        requires some { 0 < length self.old }
         ensures { Taken self.old self.new word result }
     {
         match kind {
-            Kind::Node => self.node(word, index),
-            Kind::Feed => self.feed(word, index),
-            Kind::Output => self.output(word, index),
-            Kind::Head | Kind::End | Kind::Other => Err(WordsQuestion::Kind.at(index)),
+            Kind::Node => self.node(word),
+            Kind::Feed => self.feed(word),
+            Kind::Output => self.output(word),
+            Kind::Head | Kind::End => Err(WordsQuestion::Kind),
         }
     }
 
-    /// Reads the end word, with `given` words in all.
-    fn end(&self, word: u32, index: usize, given: usize) -> Result<Design, Fault>
-        requires sound { Sound self.now }
-        requires kind { kind_of word ≡ Kind.End }
-        requires index { index ≡ length (drafted self.now) }
+    /// Reads the end word, which has that index among `given` words.
+    fn end(&self, word: u32, index: usize, given: usize) -> Result<Design, WordsQuestion>
+        requires kind { kind_of word ≡ Some Kind.End }
+        requires index { index ≡ length self.now }
         requires given { index < given }
         ensures { Ended self.now word given result }
     {
-        if !self.complete {
-            return Err(WordsQuestion::Kind.at(index));
-        }
+        let draft = &self.draft;
+        let Some(output) = draft.output else {
+            return Err(WordsQuestion::Kind);
+        };
         if !Kind::End.is_clear(word) {
-            return Err(WordsQuestion::Range.at(index));
+            return Err(WordsQuestion::Range);
         }
         let count = field_of(word, 0, 11) as usize;
         if count != index + 1 || given != index + 1 {
-            return Err(WordsQuestion::End.at(index));
+            return Err(WordsQuestion::End);
         }
         Ok(Design {
-            graph: self.graph,
+            graph: Graph {
+                output,
+                ..draft.graph
+            },
             size: given,
         })
+    }
+
+    /// Reads the word with that index among `given` words; the design where it is the end.
+    fn read(
+        &mut self,
+        word: u32,
+        index: usize,
+        given: usize,
+    ) -> Result<Option<Design>, WordsQuestion>
+        requires index { index ≡ length self.old }
+        requires some { 0 < index }
+        requires given { index < given }
+        ensures { Read self.old self.new word given result }
+    {
+        let kind = Kind::try_from(word)?;
+        if kind == Kind::End {
+            return Ok(Some(self.end(word, index, given)?));
+        }
+        self.take(kind, word)?;
+        Ok(None)
     }
 }
 
@@ -169,14 +208,18 @@ impl Draft {
 fn read_words(words: &[u32]) -> Result<Design, Fault>
     ensures { Reads words.now result }
 {
-    let mut draft = Draft::begin(words)?;
-    for index in 1..words.len() {
-        let word = words[index];
-        let kind = Kind::of(word);
-        if let Kind::End = kind {
-            return draft.end(word, index, words.len());
+    let Some((head, rest)) = words.split_first() else {
+        return Err(WordsQuestion::Word.at(0));
+    };
+    let mut reader = Reader::begin(*head).map_err(|question| question.at(0))?;
+    for (read, word) in rest.iter().enumerate() {
+        let index = read + 1;
+        let design = reader
+            .read(*word, index, words.len())
+            .map_err(|question| question.at(index))?;
+        if let Some(design) = design {
+            return Ok(design);
         }
-        draft.take(kind, word, index)?;
     }
     Err(WordsQuestion::Word.at(words.len()))
 }

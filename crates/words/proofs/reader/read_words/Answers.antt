@@ -1,41 +1,86 @@
-use Rattle.std.proofs.Common.{ℕ, ◌+◌, ◌<◌, List, [], ◌∷◌, ◌++◌, length, get_or, drop, sym, refl, ap, ◌∙◌, subst, arith}
+use Rattle.std.proofs.Common.{◌≡◌, ℕ, ◌+◌, ◌<◌, List, [], ◌∷◌, length, get_or, take, drop, Some, None, Option, Ok, Err, Result, sym, refl, ap, ◌∙◌, subst, subst₂, rules, add-one, arith}
 use Rattle.std.proofs.lemmas.List.{take_more}
 use Rattle.std.proofs.lemmas.Result.{err_from_is_err_and}
+use Rattle.words.specs.declared.faults.WordsQuestion.TheVariants as question
+use Rattle.words.specs.declared.faults.WordsQuestion.{WordsQuestion}
+use Rattle.words.specs.declared.design.Design.{Design}
+use Rattle.words.specs.Kinds.{kind_of, is_end}
 use Rattle.words.specs.Questions.{asked}
 use Rattle.words.specs.Reading.{Begins}
-use Rattle.words.proofs.Stopping.{begins}
-use Rattle.words.proofs.Refusing.{ended_reads, refused_here, refused_short, walked_on, not_end}
+use Rattle.words.specs.Refusals.{words_fault}
+use Rattle.words.specs.Taking.{Begun, Read}
+use Rattle.words.proofs.Refusing.{begins_none, ended_reads, failed_reads, refused_here, refused_short, walked_on, put, put_ok, put_err}
 use Rattle.words.proofs.reader.read_words.Goals as goal
 
-pub returns-in-End : goal.returns-in-End
-returns-in-End c =
-    ended_reads c.args.words.now c.loop-index.index c.loop-index.draft (get_or c.args.words.now c.loop-index.index 0) c.end.result c.loop-index.invariant.0
-    c.loop-index.invariant.1 (omega arith) c.loop-index.invariant.2 refl (sym c.in-End.ensures) c.end.ensures
+-- the words after the head, at their own index
+later : {words rest : List ℕ} {head : ℕ} → words ≡ head ∷ rest → (n : ℕ) → get_or words (n + 1) 0 ≡ get_or rest n 0
+later {words = words} {rest = rest} {head = head} e n = ap (λ l. get_or l (n + 1) 0) e ∙ ap (λ m. get_or (head ∷ rest) m 0) (add-one n)
 
-pub returns-in_err-take : goal.returns-in_err-take
-returns-in_err-take c =
-    let ws : List ℕ = c.args.words.now in
-    let i : ℕ = c.loop-index.index in
-    let p = err_from_is_err_and c.from_residual-in_err-take.result c.from_residual-in_err-take.ensures.1 in
-    let no' = c.in_err-take.ensures (drop (i + 1) ws) in
-    rw (p.1, p.2)
-    (refused_here ws i c.in_err-take.field-0.0 (omega arith) c.loop-index.invariant.2 (subst Begins c.loop-index.invariant.1 (begins c.loop-index.draft c.loop-index.invariant.0))
-    (ap (λ q. asked q (get_or ws i 0) (drop (i + 1) ws)) (sym c.loop-index.invariant.1) ∙ no'))
+-- what a word's reading says, of the words given
+step : {words rest : List ℕ} {head : ℕ} {before : List ℕ} (after : List ℕ) (r : Result (Option Design) WordsQuestion) (n : ℕ) → words ≡ head ∷ rest → before ≡ take (n + 1) words →
+    Read before after (get_or rest n 0) (length words) r → Read (take (n + 1) words) after (get_or words (n + 1) 0) (length words) r
+step {words = words} after r n e so_far h = subst₂ (λ p w. Read p after w (length words) r) so_far (sym (later e n)) h
 
-pub loop-index-preserved : goal.loop-index-preserved
-loop-index-preserved c =
+pub returns-in_default : goal.returns-in_default
+returns-in_default c =
+    let none : 0 ≡ length c.args.words.now = sym c.in_default.ensures.cases in
+    refused_short c.args.words.now 0 c.at.result none (c.at.ensures ∙ ap (words_fault question.Word) none) refl begins_none
+
+pub returns-in_err-reader : goal.returns-in_err-reader
+returns-in_err-reader c =
     let ws : List ℕ = c.args.words.now in
-    let i : ℕ = c.loop-index.index in
-    let l : i < length ws = omega arith in
-    let t = c.in_ok-take.ensures in (
-      t.0,
-      t.1 ∙ ap (λ q. q ++ get_or ws i 0 ∷ []) c.loop-index.invariant.1 ∙ sym (take_more ws i 0 l),
-      walked_on ws i c.of-kind.result l (sym c.of-kind.ensures) (not_end c.of-kind.result c.in_default.not-End) c.loop-index.invariant.2
-          (ap (λ q. asked q (get_or ws i 0) (drop (i + 1) ws)) (sym c.loop-index.invariant.1) ∙ t.2 (drop (i + 1) ws)),
+    let m = put 0 c.begin.result c.map_err.result (λ q f k. search rules) c.map_err.ensures.cases in
+    let e = put_err 0 c.begin.result _ (sym m ∙ c.in_err-reader.was) in
+    let p = err_from_is_err_and c.from_residual.result c.from_residual.ensures.1 in
+    let no' = subst (Begun c.in-Some.head.now) e.1 c.begin.ensures in
+    rw (p.1, p.2, e.2)
+    (refused_here ws 0 (words_fault e.0 0) (omega (arith, c.in-Some.ensures.cases.1)) refl begins_none
+    (ap (λ w. asked [] w (drop 1 ws)) (ap (λ l. get_or l 0 0) c.in-Some.ensures.cases.0) ∙ no' (drop 1 ws)))
+
+pub loop-read-init : goal.loop-read-init
+loop-read-init c =
+    let ws : List ℕ = c.args.words.now in
+    let m = put 0 c.begin.result c.map_err.result (λ q f k. search rules) c.map_err.ensures.cases in
+    let yes = subst (Begun c.in-Some.head.now) (put_ok 0 c.begin.result _ (sym m ∙ c.in_ok-reader.was)) c.begin.ensures in
+    let one : take 1 ws ≡ c.in-Some.head.now ∷ [] = ap (take 1) c.in-Some.ensures.cases.0 in
+    let first : get_or ws 0 0 ≡ c.in-Some.head.now = ap (λ l. get_or l 0 0) c.in-Some.ensures.cases.0 in (
+      yes.1.0 ∙ sym one,
+      subst Begins (yes.1.0 ∙ sym one) yes.1.1,
+      walked_on ws 0 (omega (arith, c.in-Some.ensures.cases.1)) (ap (λ w. is_end (kind_of w)) first ∙ yes.0) refl
+          (ap (λ w. asked [] w (drop 1 ws)) first ∙ yes.1.2 (drop 1 ws)),
+    )
+
+pub returns-in_err-design : goal.returns-in_err-design
+returns-in_err-design c =
+    let m = put (c.loop-read.read + 1) c.read.result c.map_err-in-loop-read.result (λ q f k. search rules) c.map_err-in-loop-read.ensures.cases in
+    let e = put_err (c.loop-read.read + 1) c.read.result _ (sym m ∙ c.in_err-design.was) in
+    let p = err_from_is_err_and c.from_residual-in_err-design.result c.from_residual-in_err-design.ensures.1 in
+    let no' = step c.read.new.self (Err e.0) c.loop-read.read c.in-Some.ensures.cases.0 c.loop-read.invariant.0 (subst (Read _ _ _ _) e.1 c.read.ensures) in
+    rw (p.1, p.2, e.2)
+    (failed_reads c.args.words.now (c.loop-read.read + 1) e.0 (omega (arith, c.in-Some.ensures.cases.1)) c.loop-read.invariant.2 c.loop-read.invariant.1 no')
+
+pub returns-in-Some-design : goal.returns-in-Some-design
+returns-in-Some-design c =
+    let m = put (c.loop-read.read + 1) c.read.result c.map_err-in-loop-read.result (λ q f k. search rules) c.map_err-in-loop-read.ensures.cases in
+    let yes =
+    step c.read.new.self (Ok (Some c.in-Some-design.design)) c.loop-read.read c.in-Some.ensures.cases.0 c.loop-read.invariant.0
+    (subst (Read _ _ _ _) (put_ok (c.loop-read.read + 1) c.read.result _ (sym m ∙ c.in_ok-design.was ∙ ap Ok c.in-Some-design.is)) c.read.ensures) in
+    ended_reads c.args.words.now (c.loop-read.read + 1) c.in-Some-design.design (omega (arith, c.in-Some.ensures.cases.1)) c.loop-read.invariant.2 yes.0 yes.1
+
+pub loop-read-preserved : goal.loop-read-preserved
+loop-read-preserved c =
+    let ws : List ℕ = c.args.words.now in
+    let m = put (c.loop-read.read + 1) c.read.result c.map_err-in-loop-read.result (λ q f k. search rules) c.map_err-in-loop-read.ensures.cases in
+    let yes =
+    step c.read.new.self (Ok None) c.loop-read.read c.in-Some.ensures.cases.0 c.loop-read.invariant.0
+    (subst (Read _ _ _ _) (put_ok (c.loop-read.read + 1) c.read.result _ (sym m ∙ c.in_ok-design.was ∙ ap Ok c.in_default-design.is)) c.read.ensures) in
+    let l : c.loop-read.read + 1 < length ws = omega (arith, c.in-Some.ensures.cases.1) in
+    let more : c.read.new.self ≡ take (c.loop-read.read + 1 + 1) ws = yes.1.0 ∙ sym (take_more ws (c.loop-read.read + 1) 0 l) in (
+      more,
+      subst Begins more yes.1.1,
+      walked_on ws (c.loop-read.read + 1) l yes.0 c.loop-read.invariant.2 (yes.1.2 (drop (c.loop-read.read + 1 + 1) ws)),
     )
 
 pub returns : goal.returns
 returns c =
-    let l : 0 < length c.args.words.now = c.in_ok-draft.ensures.1 in
-    refused_short c.args.words.now c.loop-index.index c.at.result (omega arith) c.at.ensures c.loop-index.invariant.2
-    (subst Begins c.loop-index.invariant.1 (begins c.loop-index.draft c.loop-index.invariant.0))
+    refused_short c.args.words.now (c.loop-read.read + 1) c.at-2.result (omega (arith, c.in-Some.ensures.cases.1)) c.at-2.ensures c.loop-read.invariant.2 c.loop-read.invariant.1

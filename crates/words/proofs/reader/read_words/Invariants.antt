@@ -1,9 +1,9 @@
-use Rattle.std.proofs.Common.{◌≡◌, take, drop}
+use Rattle.std.proofs.Common.{◌≡◌, ◌+◌, take, drop}
 use Rattle.words.specs.Questions.{refused_from, refused}
-use Rattle.words.specs.Drafts.{drafted, Sound}
+use Rattle.words.specs.Reading.{Begins}
 use Rattle.words.proofs.reader.read_words.Given as goal
 
--- the words so far are the draft's, and passed
-abbrev pub invariant-loop-index : goal.invariant-loop-index
-invariant-loop-index l =
-    Sound l.draft × (drafted l.draft ≡ take l.index l.words) × (refused_from (take l.index l.words) (drop l.index l.words) ≡ refused l.words)
+-- the words so far begin a design, and passed
+abbrev pub invariant-loop-read : goal.invariant-loop-read
+invariant-loop-read l =
+    (l.reader ≡ take (l.read + 1) l.words) × Begins (take (l.read + 1) l.words) × (refused_from (take (l.read + 1) l.words) (drop (l.read + 1) l.words) ≡ refused l.words)
