@@ -1,3 +1,4 @@
+pub mod Filling
 pub mod Ranges
 pub mod Encodings
 mod Wholes
