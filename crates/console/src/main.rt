@@ -35,7 +35,7 @@ impl From<io::Error> for Stopped {
 fn answer(bytes: &[u8], text: &mut [u8]) -> Result<usize, Fault>
     ensures { Answered bytes.now text.old text.new result }
 {
-    let input = InputWords::from_bytes(bytes)?;
+    let input = InputWords::try_from(bytes)?;
     let design = read_design(input.as_slice())?;
     list_design(&design, text)
 }

@@ -32,7 +32,7 @@ fn parse_bytes(line: &[u8], bytes: &mut [u8]) -> Option<usize> {
 }
 
 fn answer(bytes: &[u8], text: &mut [u8]) -> Result<usize, Fault> {
-    let input = InputWords::from_bytes(bytes)?;
+    let input = InputWords::try_from(bytes)?;
     let design = read_design(input.as_slice())?;
     list_design(&design, text)
 }

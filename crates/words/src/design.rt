@@ -4,7 +4,7 @@ ghost use Rattle.std.specs.Prelude.{◌≡◌, ◌<◌, ◌&&◌, length, take, 
 ghost use Rattle.words.specs.Designs.{InRange, feed_at, node_at};
 ghost use Rattle.words.specs.Encoding.{encoded};
 
-use crate::graph::{Graph, Node, Output, SOURCES};
+use crate::graph::{Graph, Node, Output};
 
 /// A filter design: 1 to 32 nodes, each with an operation and at most one feed from each source, and an output.
 #[derive(Clone, Copy)]
@@ -34,27 +34,21 @@ impl Design {
     pub fn nodes(&self) -> &[Node]
         ensures { result.now ≡ take self.now.graph.count self.now.graph.nodes }
     {
-        &self.graph.nodes[0..self.graph.count]
+        &self.graph.nodes[..self.graph.count]
     }
 
     /// The operation of a node, `None` where it has no such node.
     pub fn operation(&self, node: usize) -> Option<u8>
         ensures { result ≡ (if nat_lt node self.now.graph.count then Some (node_at self.now.graph node).operation else None) }
     {
-        if node >= self.graph.count {
-            return None;
-        }
-        Some(self.graph.nodes[node].operation)
+        Some(self.nodes().get(node)?.operation)
     }
 
     /// The delay of a node's feed from a source, `None` where that source does not feed it.
     pub fn feed(&self, node: usize, source: usize) -> Option<u8>
         ensures { result ≡ feed_at self.now.graph node source }
     {
-        if node >= self.graph.count || source >= SOURCES {
-            return None;
-        }
-        self.graph.nodes[node].feeds[source]
+        *self.nodes().get(node)?.feeds.get(source)?
     }
 
     /// Where its output is read.

@@ -18,6 +18,6 @@ impl InputWords {
     pub fn as_slice(&self) -> &[u32]
         ensures { result.now ≡ take self.now.count self.now.words }
     {
-        &self.words[0..self.count]
+        &self.words[..self.count]
     }
 }

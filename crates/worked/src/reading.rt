@@ -152,9 +152,9 @@ fn each_question_refuses(rt: HostRuntime) {
 
 #[test]
 fn left_over_bytes_refuse(rt: HostRuntime) -> Result<(), Fail> {
-    let input = InputWords::from_bytes(b"\x10\x00\x00\x01")?;
+    let input = InputWords::try_from(b"\x10\x00\x00\x01".as_slice())?;
     assert!(rt; input.as_slice() == [0x10000001].as_slice());
-    match InputWords::from_bytes(b"\x10\x00\x00\x01\x20") {
+    match InputWords::try_from(b"\x10\x00\x00\x01\x20".as_slice()) {
         Ok(_) => Err(Fail::new("accepted")),
         Err(fault) => {
             assert_eq!(rt; Some(fault), by_words(WordsQuestion::Word, 1));

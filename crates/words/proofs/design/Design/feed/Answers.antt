@@ -1,19 +1,12 @@
-use Rattle.std.proofs.Common.{sym, arith}
-use Rattle.words.proofs.Ranges.{ranges, feed_past_nodes, feed_past_sources}
+use Rattle.std.proofs.Common.{◌≡◌, ◌≤◌, length, sym, ap, ◌∙◌, arith}
+use Rattle.std.proofs.lemmas.List.{length-take-le}
+use Rattle.words.proofs.Ranges.{ranges, feed_past_nodes}
 use Rattle.words.proofs.design.Design.feed.Goals as goal
-use Rattle.words.proofs.design.Design.feed.Goals.{then-node-self-via-then-node-self, then-node-self-via-else-node-self+then-source-ge-SOURCES}
 
-pub returns-then-node-self : goal.returns-then-node-self
-returns-then-node-self c =
+pub returns-in_err-get : goal.returns-in_err-get
+returns-in_err-get c =
     let r = ranges c.args.self.now.graph c.args.self.now.sound in
-    elim c.then-node-self.branch [
-      | then-node-self-via-then-node-self w ↦ sym (feed_past_nodes c.args.self.now.graph r c.args.node c.args.source w.if-node-self.true)
-      | then-node-self-via-else-node-self+then-source-ge-SOURCES w ↦
-          sym (feed_past_sources c.args.self.now.graph r c.args.node c.args.source w.if-source-ge-SOURCES.true)
-    ]
-
-pub offset_bounds-self-node : goal.offset_bounds-self-node
-offset_bounds-self-node c = let r = ranges c.args.self.now.graph c.args.self.now.sound in omega (arith, r.few)
-
-pub bounds-self-node : goal.bounds-self-node
-bounds-self-node c = let r = ranges c.args.self.now.graph c.args.self.now.sound in omega (arith, r.few)
+    let long : length c.nodes.result.now ≡ c.args.self.now.graph.count =
+    ap length c.nodes.ensures ∙ length-take-le c.args.self.now.graph.count c.args.self.now.graph.nodes (omega (arith, r.few, r.table)) in
+    let past : length c.nodes.result.now ≤ c.args.node = c.in_err-get.ensures.lookup.3 in
+    c.from_residual.ensures ∙ sym (feed_past_nodes c.args.self.now.graph r c.args.node c.args.source (omega arith))
