@@ -1,6 +1,5 @@
 mod Taps
 pub mod Histories
-mod Operands
 mod Filling
 mod Planning
 mod Asking

@@ -5,8 +5,9 @@ ghost use Rattle.bench.specs.Refusals.{unless};
 ghost use Rattle.machine.specs.Refusals.{machine_fault, simulate_fault};
 ghost use Rattle.machine.specs.Simulation.{Simulates};
 
-use crate::history::heard;
-use crate::tap::{Plan, Tap};
+use crate::moment::Moment;
+use crate::plan::Plan;
+use crate::tap::Tap;
 use bench::bench::Bench;
 use cells::library::CellLibrary;
 use words::faults::{Fault, MachineFault};
@@ -25,6 +26,7 @@ fn refusal(number: u8, place: usize, other: usize) -> Fault
 }
 
 /// Questions 17, 20, 21 and 22, of the lengths that are given for a design of `count` nodes.
+#[tactic(auto, unfolding(crate::specs::Refusals::simulate_fault))]
 fn ask_lengths(
     count: usize,
     rest: usize,
@@ -64,8 +66,9 @@ pub fn simulate<L: CellLibrary>(
     ensures same { L.meaning library.new ≡ L.meaning library.old }
 {
     let design = bench.design();
+    let count = design.count();
     ask_lengths(
-        design.count(),
+        count,
         rest.len(),
         inputs.len(),
         history.len(),
@@ -78,8 +81,14 @@ pub fn simulate<L: CellLibrary>(
         delay: output.delay,
     };
     for time in 0..inputs.len() {
-        plan.fire(library, rest, inputs, history, time);
-        outputs[time] = heard(plan.count, rest, inputs, history, time, tap);
+        let moment = Moment {
+            count,
+            rest,
+            inputs,
+            time,
+        };
+        plan.fire(library, &moment, history);
+        outputs[time] = moment.hears(history, tap);
     }
     Ok(())
 }
