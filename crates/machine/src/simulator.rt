@@ -1,6 +1,6 @@
 //! The source simulator: the values of a design in time, whatever its bench was slowed and lagged by.
 
-ghost use Rattle.std.specs.Prelude.{◌≡◌, ◌≤◌};
+ghost use Rattle.std.specs.Prelude.{◌≡◌, ◌+◌, ◌*◌, ◌≤◌, OnOk};
 ghost use Rattle.bench.specs.Refusals.{unless};
 ghost use Rattle.machine.specs.Refusals.{machine_fault, simulate_fault};
 ghost use Rattle.machine.specs.Simulation.{Simulates};
@@ -35,7 +35,11 @@ fn ask_lengths(
     outputs: usize,
 ) -> Result<(), Fault>
     requires { count ≤ 32 }
-    ensures { result ≡ unless (simulate_fault count rest times history outputs) tt }
+    ensures answer { result ≡ unless (simulate_fault count rest times history outputs) tt }
+    ensures rest { OnOk result (rest ≡ count + 1) }
+    ensures times { OnOk result (times ≤ 65536) }
+    ensures history { OnOk result (count * times ≤ history) }
+    ensures outputs { OnOk result (times ≤ outputs) }
 {
     if rest != count + 1 {
         return Err(refusal(17, rest, count + 1));
@@ -80,7 +84,7 @@ pub fn simulate<L: CellLibrary>(
         source: output.node as u8,
         delay: output.delay,
     };
-    for time in 0..inputs.len() {
+    for (time, place) in outputs[..inputs.len()].iter_mut().enumerate() {
         let moment = Moment {
             count,
             rest,
@@ -88,7 +92,7 @@ pub fn simulate<L: CellLibrary>(
             time,
         };
         plan.fire(library, &moment, history);
-        outputs[time] = moment.hears(history, tap);
+        *place = moment.hears(history, tap);
     }
     Ok(())
 }

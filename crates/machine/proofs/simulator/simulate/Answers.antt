@@ -1,5 +1,6 @@
-use Rattle.std.proofs.Common.{◌≡◌, ℕ, ◌+◌, ◌*◌, ◌<◌, ◌≤◌, true, ◌||◌, eqb, List, length, get_or, drop, set, is_some, None, Ok, sym, refl, ap, ◌∙◌, subst, ⊎_elim, arith}
-use Rattle.std.proofs.lemmas.List.{drop-set-lt, get_or-set_same, get_or-set_other}
+use Rattle.std.proofs.Common.{◌≡◌, ℕ, ◌+◌, ◌*◌, ◌<◌, ◌≤◌, true, ◌||◌, eqb, List, length, get_or, take, drop, ◌++◌, set, is_some, None, Ok, sym, refl, ap, ◌∙◌, subst, ⊎_elim, arith}
+use Rattle.std.proofs.lemmas.List.{length-take-le, length-append, length-drop, get_or_append_left, get_or-set_same, get_or-set_other}
+use Rattle.std.proofs.lemmas.Slice.{drop-append-drop}
 use Rattle.std.proofs.lemmas.Bool.{true≢false, cases_lt, lt-ltb}
 use Rattle.words.specs.declared.graph.Graph.{Graph}
 use Rattle.words.specs.declared.graph.Output.{Output}
@@ -13,7 +14,6 @@ use Rattle.machine.specs.Values.{Solves, output}
 use Rattle.machine.specs.Simulation.{Filled, Simulated, Simulates}
 use Rattle.machine.specs.Buffers.{rest_in, input_in, heard_in}
 use Rattle.machine.specs.Refusals.{simulate_fault}
-use Rattle.machine.proofs.Asking.{asked}
 use Rattle.machine.proofs.Histories.{determined}
 use Rattle.machine.proofs.Simulating.{output_heard, output_held, held_solves}
 use Rattle.machine.proofs.simulator.simulate.Goals as goal
@@ -37,32 +37,21 @@ accepted : {E A : Type 0} (g : Graph) (m : Meaning E A) (rest inputs before afte
 accepted g m rest inputs before after outputs_before outputs_after none simulated =
     record { refuses = λ f fault. absurd (true≢false (ap is_some (sym fault ∙ none))); simulates = λ _. (refl, simulated) }
 
-pub invariant_of-moment : goal.invariant_of-moment
-invariant_of-moment g c =
-    let ok = asked _ _ _ _ _ (unless_none _ (tt {0}) (tt {0}) c.in_ok-ask_lengths.ensures) in
-    let range = ranges c.args.bench.now.design.graph c.args.bench.now.design.sound in
-    record { few = omega (arith, range.few, c.count-count.ensures, ap (λ (x : Design). x.graph.count) c.design-design.ensures); short = ok.1; rests = ok.0; within = c.loop-time-test.true }
-
-pub fire-requires-clause-history : goal.fire-requires-clause-history
-fire-requires-clause-history g c =
-    let ok = asked _ _ _ _ _ (unless_none _ (tt {0}) (tt {0}) c.in_ok-ask_lengths.ensures) in
-    omega (arith, ok.2, c.loop-time.auto.history)
+pub invariant_of-moment-clause-few : goal.invariant_of-moment-clause-few
+invariant_of-moment-clause-few g c =
+    omega (arith, (ranges c.args.bench.now.design.graph c.args.bench.now.design.sound).few, c.count-count.ensures, ap (λ (x : Design). x.graph.count) c.design-design.ensures)
 
 pub hears-requires-clause-source : goal.hears-requires-clause-source
 hears-requires-clause-source g c =
-    let range = ranges c.args.bench.now.design.graph c.args.bench.now.design.sound in
     node_source c.count-count.result c.output-output.result.node
-    (omega (arith, range.output_node, c.count-count.ensures, ap (λ (o : Output). o.node) c.output-output.ensures, ap (λ (x : Design). x.graph.count) c.design-design.ensures, ap (λ (x : Design). x.graph.output.node) c.design-design.ensures))
-
-pub hears-requires-clause-history : goal.hears-requires-clause-history
-hears-requires-clause-history g c =
-    let ok = asked _ _ _ _ _ (unless_none _ (tt {0}) (tt {0}) c.in_ok-ask_lengths.ensures) in
-    omega (arith, ok.2, c.loop-time.auto.history, c.fire.ensures.long)
-
-pub bounds-outputs-time : goal.bounds-outputs-time
-bounds-outputs-time g c =
-    let ok = asked _ _ _ _ _ (unless_none _ (tt {0}) (tt {0}) c.in_ok-ask_lengths.ensures) in
-    omega (arith, ok.3, c.loop-time-test.true, c.loop-time.auto.outputs)
+    (omega (
+      arith,
+      (ranges c.args.bench.now.design.graph c.args.bench.now.design.sound).output_node,
+      c.count-count.ensures,
+      ap (λ (o : Output). o.node) c.output-output.ensures,
+      ap (λ (x : Design). x.graph.count) c.design-design.ensures,
+      ap (λ (x : Design). x.graph.output.node) c.design-design.ensures,
+    ))
 
 pub loop-time-preserved : goal.loop-time-preserved
 loop-time-preserved g c =
@@ -73,13 +62,11 @@ loop-time-preserved g c =
     let T = length c.args.inputs.now in
     let t = c.loop-time.time in
     let h = c.fire.new.history in
-    let ok = asked _ _ _ _ _ (unless_none _ (tt {0}) (tt {0}) c.in_ok-ask_lengths.ensures) in
     let n : c.count-count.result ≡ graph.count = c.count-count.ensures ∙ ap (λ (x : Design). x.graph.count) c.design-design.ensures in
     let out : c.output-output.result ≡ graph.output = c.output-output.ensures ∙ ap (λ (x : Design). x.graph.output) c.design-design.ensures in
     record {
       same = c.fire.ensures.same ∙ c.loop-time.invariant.same;
       past_history = subst (λ k. drop (k * T) h ≡ drop (k * T) c.loop-time.history) n c.fire.ensures.past ∙ c.loop-time.invariant.past_history;
-      past_outputs = drop-set-lt T c.loop-time.outputs t c.hears.result c.loop-time-test.true ∙ c.loop-time.invariant.past_outputs;
       filled = λ d v solves.
           let rest = rest_in graph.count c.args.rest.now d in
           let x = input_in c.args.inputs.now d in
@@ -89,7 +76,7 @@ loop-time-preserved g c =
           c.hears.ensures d ∙ ap (λ k. heard_in k c.args.rest.now c.args.inputs.now h d t c.output-output.result.node c.output-output.result.delay) n
           ∙ ap (λ (o : Output). heard_in graph.count c.args.rest.now c.args.inputs.now h d t o.node o.delay) out
           ∙ output_heard graph range (order graph at_rest) (m c.args.library.now) rest x v h d (t + 1) filled t (omega arith) in
-          (filled, outputs_more c.loop-time.outputs c.hears.result d t (output graph rest v) (omega (arith, ok.3, c.loop-time-test.true, c.loop-time.auto.outputs)) new before.1);
+          (filled, outputs_more c.loop-time.place-items c.hears.result d t (output graph rest v) (omega (arith, c.loop-time-test.true, c.loop-time.auto.place-items)) new before.1);
     }
 
 pub returns-clause-values : goal.returns-clause-values
@@ -99,27 +86,30 @@ returns-clause-values g c =
     let range = ranges graph c.args.bench.now.design.sound in
     let ranked = c.of-plan.ensures.ranked in
     let n : c.count-count.result ≡ graph.count = c.count-count.ensures ∙ ap (λ (x : Design). x.graph.count) c.design-design.ensures in
-    let all : c.loop-time.time ≡ length c.args.inputs.now = omega (arith, c.loop-time-test.false, c.loop-time.auto.time-end) in
+    let T = length c.args.inputs.now in
+    let room : length (take T c.args.outputs.now) ≡ T = length-take-le T c.args.outputs.now c.in_ok-ask_lengths.ensures.outputs in
+    let all : c.loop-time.time ≡ T = omega (arith, c.loop-time-test.false, c.loop-time.auto.time-end, room) in
+    let written : length c.loop-time.place-items ≡ T = omega (arith, c.loop-time.auto.place-items, room) in
+    let outputs = c.loop-time.place-items ++ drop T c.args.outputs.now in
     let kept = λ (d : g.row.L-Elem.Denot).
     let one = determined graph range (order graph at_rest) ranked m (rest_in graph.count c.args.rest.now d) (input_in c.args.inputs.now d) in
     c.loop-time.invariant.filled d one.history one.solves in
-    accepted graph m c.args.rest.now c.args.inputs.now c.args.history.now c.loop-time.history c.args.outputs.now c.loop-time.outputs
-    (subst (λ k. simulate_fault k (length c.args.rest.now) (length c.args.inputs.now) (length c.args.history.now) (length c.args.outputs.now) ≡ None) n
-    (unless_none _ (tt {0}) (tt {0}) c.in_ok-ask_lengths.ensures))
+    accepted graph m c.args.rest.now c.args.inputs.now c.args.history.now c.loop-time.history c.args.outputs.now outputs
+    (subst (λ k. simulate_fault k (length c.args.rest.now) (length c.args.inputs.now) (length c.args.history.now) (length c.args.outputs.now) ≡ None) n (unless_none _ (tt {0}) (tt {0}) c.in_ok-ask_lengths.ensures.answer))
     (record {
       solves = λ d.
           let rest = rest_in graph.count c.args.rest.now d in
           let x = input_in c.args.inputs.now d in
           let one = determined graph range (order graph at_rest) ranked m rest x in
-          held_solves graph range (order graph at_rest) m rest x one.history c.loop-time.history d (length c.args.inputs.now)
+          held_solves graph range (order graph at_rest) m rest x one.history c.loop-time.history d T
           (subst (λ t. Filled graph.count (order graph at_rest) one.history c.loop-time.history d t 0) all (kept d).0) ranked one.solves;
       outputs = λ d t l.
           let rest = rest_in graph.count c.args.rest.now d in
           let x = input_in c.args.inputs.now d in
           let one = determined graph range (order graph at_rest) ranked m rest x in
-          (kept d).1 t (omega (arith, all)) ∙ output_held graph range (order graph at_rest) m rest x one.history c.loop-time.history d c.loop-time.time (kept d).0 t (omega (arith, all));
+          get_or_append_left c.loop-time.place-items (drop T c.args.outputs.now) d t (omega (arith, written)) ∙ (kept d).1 t (omega (arith, all)) ∙ output_held graph range (order graph at_rest) m rest x one.history c.loop-time.history d c.loop-time.time (kept d).0 t (omega (arith, all));
       long = c.loop-time.auto.history;
       past_history = c.loop-time.invariant.past_history;
-      outputs_long = c.loop-time.auto.outputs;
-      past_outputs = c.loop-time.invariant.past_outputs;
+      outputs_long = omega (arith, length-append c.loop-time.place-items (drop T c.args.outputs.now), length-drop T c.args.outputs.now, written, c.in_ok-ask_lengths.ensures.outputs);
+      past_outputs = drop-append-drop T c.args.outputs.now c.loop-time.place-items T (omega arith) written;
     })
