@@ -1,4 +1,5 @@
 mod Taps
+mod Gathering
 pub mod Histories
 mod Filling
 mod Planning

@@ -3,7 +3,7 @@ use Rattle.std.proofs.lemmas.List.{get_or-map, length-map}
 use Rattle.std.proofs.lemmas.Bool.{cases_eq}
 use Rattle.words.specs.Designs.{is_source, input}
 use Rattle.cells.specs.Meaning.{Meaning, Operand, gathered, applied}
-use Rattle.cells.proofs.Gathering.{gathered_more, applied_all}
+use Rattle.machine.proofs.Gathering.{gathered_more, applied_all}
 use Rattle.machine.specs.declared.tap.Tap.{Tap}
 use Rattle.machine.specs.Values.{operand}
 use Rattle.machine.specs.Buffers.{heard_in}
@@ -40,7 +40,7 @@ loop-tap-preserved g c =
     subst (λ (ts : List Tap). is_source at.count (get_or ts i first_tap).source ≡ true) (sym row.ensures.value)
     (c.requires.ready.1 i first_tap (subst (λ (ts : List Tap). i < length ts) row.ensures.value c.loop-tap-test.true)) in
     record {
-      same = c.next-sum.ensures.same ∙ c.loop-tap.invariant.same;
+      same = cc;
       so_far = λ d.
           one_more (m c.first-sum.new.self) cell.operation (operand (heard_in at.count at.rest.now at.inputs.now c.args.history.now d at.time)) cell.taps.items row.result.now row.ensures.value
           (m c.loop-tap.library) i c.loop-tap.sum c.next-sum.result c.hears-operand.result c.loop-tap.invariant.same c.loop-tap-test.true (c.loop-tap.invariant.so_far d) (c.hears-operand.ensures d)
