@@ -30,6 +30,12 @@ outputs_more row e d t y inside is before s l =
     (λ (least : t ≤ s). let same : s ≡ t = omega arith in ap (λ k. get_or (set row t e) k d) same ∙ get_or-set_same row t e d inside ∙ is ∙ ap y (sym same))
     (cases_lt s t)
 
+-- what is heard at the output, said of the design's own count and output
+same_heard : {E : Type 0} (n k : ℕ) (o out : Output) (rest inputs h : List E) (d : E) (t : ℕ) (e : E) → n ≡ k → o ≡ out → e ≡ heard_in n rest inputs h d t o.node o.delay →
+    e ≡ heard_in k rest inputs h d t out.node out.delay
+same_heard n k o out rest inputs h d t e counted read is =
+    is ∙ ap (λ i. heard_in i rest inputs h d t o.node o.delay) counted ∙ ap (λ (p : Output). heard_in k rest inputs h d t p.node p.delay) read
+
 -- the way out
 accepted : {E A : Type 0} (g : Graph) (m : Meaning E A) (rest inputs before after outputs_before outputs_after : List E) →
     simulate_fault g.count (length rest) (length inputs) (length before) (length outputs_before) ≡ None → Simulated g m rest inputs before after outputs_before outputs_after →
@@ -65,7 +71,7 @@ loop-time-preserved g c =
     let n : c.count-count.result ≡ graph.count = c.count-count.ensures ∙ ap (λ (x : Design). x.graph.count) c.design-design.ensures in
     let out : c.output-output.result ≡ graph.output = c.output-output.ensures ∙ ap (λ (x : Design). x.graph.output) c.design-design.ensures in
     record {
-      same = c.fire.ensures.same ∙ c.loop-time.invariant.same;
+      same = cc;
       past_history = subst (λ k. drop (k * T) h ≡ drop (k * T) c.loop-time.history) n c.fire.ensures.past ∙ c.loop-time.invariant.past_history;
       filled = λ d v solves.
           let rest = rest_in graph.count c.args.rest.now d in
@@ -73,8 +79,7 @@ loop-time-preserved g c =
           let before = c.loop-time.invariant.filled d v solves in
           let filled = c.fire.ensures.values graph (order graph at_rest) range c.of-plan.ensures.ranked whole d v (subst (λ q. Solves graph q rest x v) (sym c.loop-time.invariant.same) solves) before.0 in
           let new : c.hears.result ≡ output graph rest v t =
-          c.hears.ensures d ∙ ap (λ k. heard_in k c.args.rest.now c.args.inputs.now h d t c.output-output.result.node c.output-output.result.delay) n
-          ∙ ap (λ (o : Output). heard_in graph.count c.args.rest.now c.args.inputs.now h d t o.node o.delay) out
+          same_heard c.count-count.result graph.count c.output-output.result graph.output c.args.rest.now c.args.inputs.now h d t c.hears.result n out (c.hears.ensures d)
           ∙ output_heard graph range (order graph at_rest) (m c.args.library.now) rest x v h d (t + 1) filled t (omega arith) in
           (filled, outputs_more c.loop-time.place-items c.hears.result d t (output graph rest v) (omega (arith, c.loop-time-test.true, c.loop-time.auto.place-items)) new before.1);
     }

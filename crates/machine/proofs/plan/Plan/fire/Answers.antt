@@ -1,6 +1,7 @@
 use Rattle.std.proofs.Common.{◌≡◌, ℕ, ◌+◌, ◌*◌, ◌<◌, List, map, length, get_or, sym, ap, ◌∙◌, subst, arith, rules}
 use Rattle.std.proofs.lemmas.List.{drop-set-lt}
-use Rattle.cells.specs.Meaning.{applied}
+use Rattle.cells.specs.Meaning.{Meaning, applied}
+use Rattle.machine.specs.declared.tap.Tap.{Tap}
 use Rattle.machine.specs.declared.tap.Cell.{Cell}
 use Rattle.machine.specs.Values.{operand}
 use Rattle.machine.specs.Plans.{Planned, Ready}
@@ -20,6 +21,12 @@ module _ (plan row : List Cell) (same : row ≡ plan) (k : ℕ) (inside : k < le
   pub place_front : ((i : ℕ) (d : Cell) → i < length plan → Ready (length plan) (get_or plan i d)) → (n T t : ℕ) → length plan ≡ n → t < T → t * n + cell.node < n * T
   place_front ready n T t all lt =
       place_within n T (n * T) t cell.node lt (omega (arith, (ready k cell in_plan).0, ap (λ (x : Cell). x.node) is_cell, all)) (omega arith)
+
+-- what a cell computes, said of the design's own count and the meaning at first
+same_value : {E A : Type 0} (q m : Meaning E A) (n k : ℕ) (o : ℕ) (taps : List Tap) (rest inputs h : List E) (d : E) (t : ℕ) (e : E) → q ≡ m → n ≡ k →
+    e ≡ applied q o (map (operand (heard_in n rest inputs h d t)) taps) → e ≡ applied m o (map (operand (heard_in k rest inputs h d t)) taps)
+same_value q m n k o taps rest inputs h d t e meant counted is =
+    is ∙ ap (λ p. applied p o (map (operand (heard_in n rest inputs h d t)) taps)) meant ∙ ap (λ i. applied m o (map (operand (heard_in i rest inputs h d t)) taps)) counted
 
 pub offset_bounds-history-moment : goal.offset_bounds-history-moment
 offset_bounds-history-moment g c =
@@ -43,7 +50,7 @@ loop-cell-preserved g c =
     let place = at.time * at.count + cell.node in
     let front = place_front plan row.result.now row.ensures.value k c.loop-cell-test.true cell c.cell-item.is c.args.self.now.ready at.count (length at.inputs.now) at.time c.requires.all at.within in
     record {
-      same = c.value-value.ensures.same ∙ c.loop-cell.invariant.same;
+      same = cc;
       past = drop-set-lt (at.count * length at.inputs.now) h place c.value-value.result front ∙ c.loop-cell.invariant.past;
       filled = λ graph order range ranked whole d v solves start.
           let n : at.count ≡ graph.count = sym c.requires.all ∙ whole.count in
@@ -51,9 +58,8 @@ loop-cell-preserved g c =
           let planned : Planned graph (get_or order k 0) cell =
           subst (Planned graph (get_or order k 0)) (is_cell plan row.result.now row.ensures.value k c.loop-cell-test.true cell c.cell-item.is) (whole.cells k cell lk) in
           let filled = c.loop-cell.invariant.filled graph order range ranked whole d v solves start in
-          let is = c.value-value.ensures.value d
-          ∙ ap (λ q. applied q cell.operation (map (operand (heard_in at.count at.rest.now at.inputs.now h d at.time)) cell.taps.items)) c.loop-cell.invariant.same
-          ∙ ap (λ i. applied (m c.args.library.now) cell.operation (map (operand (heard_in i at.rest.now at.inputs.now h d at.time)) cell.taps.items)) n in
+          let is = same_value _ (m c.args.library.now) at.count graph.count cell.operation cell.taps.items at.rest.now at.inputs.now h d at.time c.value-value.result c.loop-cell.invariant.same n
+          (c.value-value.ensures.value d) in
           filled_more graph range order ranked (m c.args.library.now) (rest_in graph.count at.rest.now d) (input_in at.inputs.now d) v solves h d at.time k lk filled place c.value-value.result
           (ap (λ i. at.time * i + cell.node) n ∙ ap (λ i. at.time * graph.count + i) planned.node)
           (omega (arith, front, c.requires.history, c.loop-cell.auto.history))
