@@ -1,4 +1,3 @@
-pub mod Gathering
 pub mod Wrapping
 mod Choosing
 mod Presence

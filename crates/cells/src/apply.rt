@@ -11,8 +11,8 @@ pub fn apply<L: CellLibrary>(library: &mut L, operation: u8, operands: &[(u8, L:
     ensures same { L.meaning library.new ≡ L.meaning library.old }
 {
     let mut sum = library.first(operation);
-    for operand in operands {
-        sum = library.next(operation, operand.0, sum, operand.1);
+    for &(source, operand) in operands {
+        sum = library.next(operation, source, sum, operand);
     }
     library.element(operation, sum)
 }

@@ -8,7 +8,7 @@ use crate::apply::apply;
 use crate::library::CellLibrary;
 
 /// A node is present exactly when all its operands are, with the value that the library below gives.
-#[derive(Drop)]
+#[derive(Clone, Debug, Drop, PartialEq)]
 pub struct Bubble<L> {
     pub below: L,
 }
@@ -31,17 +31,11 @@ impl<L: CellLibrary> CellLibrary for Bubble<L> {
         sum: Option<L::Acc>,
         operand: Option<L::Elem>,
     ) -> Option<L::Acc> {
-        match (sum, operand) {
-            (Some(sum), Some(operand)) => Some(self.below.next(operation, source, sum, operand)),
-            _ => None,
-        }
+        Some(self.below.next(operation, source, sum?, operand?))
     }
 
     fn element(&mut self, operation: u8, sum: Option<L::Acc>) -> Option<L::Elem> {
-        match sum {
-            Some(sum) => Some(self.below.element(operation, sum)),
-            None => None,
-        }
+        Some(self.below.element(operation, sum?))
     }
 }
 

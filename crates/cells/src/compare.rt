@@ -8,8 +8,15 @@ use crate::apply::apply;
 use crate::library::CellLibrary;
 
 /// An even operation takes the greatest operand, 0 if there is none; an odd one the least, 65,535 if there is none.
-#[derive(Drop)]
-pub struct CompareCells {}
+#[derive(Clone, Copy, Debug, PartialEq, Eq)]
+pub struct CompareCells;
+
+/// Whether an operation takes the greatest operand.
+fn takes_greatest(operation: u8) -> bool
+    ensures { result ≡ is_even operation }
+{
+    operation % 2 == 0
+}
 
 impl CellLibrary for CompareCells {
     type Elem = u16;
@@ -19,11 +26,15 @@ impl CellLibrary for CompareCells {
     ghost meaning = { λ _. compare_meaning };
 
     fn first(&mut self, operation: u8) -> u16 {
-        if operation % 2 == 0 { 0 } else { u16::MAX }
+        if takes_greatest(operation) {
+            u16::MIN
+        } else {
+            u16::MAX
+        }
     }
 
     fn next(&mut self, operation: u8, _source: u8, sum: u16, operand: u16) -> u16 {
-        if operation % 2 == 0 {
+        if takes_greatest(operation) {
             sum.max(operand)
         } else {
             sum.min(operand)

@@ -6,5 +6,6 @@ pub mod bubble;
 pub mod compare;
 pub mod floats;
 pub mod library;
+pub mod summing;
 pub mod weights;
 pub mod whole;

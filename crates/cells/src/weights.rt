@@ -7,14 +7,14 @@ ghost use Rattle.cells.specs.declared.weights.Weight.{Weight};
 pub const OPERATIONS: usize = 256;
 
 /// A weight, and the source whose operand is multiplied by it.
-#[derive(Clone, Copy)]
+#[derive(Clone, Copy, Debug, PartialEq)]
 pub struct Weight<W> {
     pub factor: W,
     pub source: u8,
 }
 
 /// A weight for each operation.
-#[derive(Drop)]
+#[derive(Debug, Drop, PartialEq)]
 pub struct Weights<W> {
     table: [Weight<W>; OPERATIONS],
     ghost whole: { length table ≡ 256 },
@@ -34,13 +34,13 @@ impl<W: Copy> Weights<W> {
     pub fn get(&self, operation: u8) -> Weight<W>
         ensures { (other : Weight W) → result ≡ slice_index_or self.now.table operation other }
     {
-        self.table[operation as usize]
+        self.table[usize::from(operation)]
     }
 
     /// Sets the weight of an operation.
     pub fn set(&mut self, operation: u8, weight: Weight<W>)
         ensures { self.new.table ≡ slice_set self.old.table operation weight }
     {
-        self.table[operation as usize] = weight;
+        self.table[usize::from(operation)] = weight;
     }
 }

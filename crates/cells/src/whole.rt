@@ -3,42 +3,29 @@
 ghost use Rattle.std.specs.Prelude.{◌≡◌, slice_index_or};
 ghost use Rattle.std.specs.Int.{int_wrap, w32};
 ghost use Rattle.cells.specs.Meaning.{applied, Sourced};
-ghost use Rattle.cells.specs.Sums.{whole_meaning, whole_blank, exact};
+ghost use Rattle.cells.specs.Sums.{whole_arithmetic, whole_meaning, whole_blank, exact};
 
 use crate::apply::apply;
-use crate::library::CellLibrary;
-use crate::weights::{Weight, Weights};
+use crate::summing::{Summand, SummingCells};
 
-/// An operation sums its operands modulo 2^32, the one of its weighted source first multiplied by its weight.
-#[derive(Drop)]
-pub struct WholeCells {
-    pub weights: Weights<i32>,
-}
+impl Summand for i32 {
+    ghost arithmetic = { whole_arithmetic };
 
-impl CellLibrary for WholeCells {
-    type Elem = i32;
-
-    type Acc = i32;
-
-    ghost meaning = { λ s. whole_meaning s.weights.table };
-
-    fn first(&mut self, _operation: u8) -> i32 {
+    fn zero() -> i32 {
         0
     }
 
-    fn next(&mut self, operation: u8, source: u8, sum: i32, operand: i32) -> i32 {
-        let weight = self.weights.get(operation);
-        if source == weight.source {
-            sum.wrapping_add(operand.wrapping_mul(weight.factor))
-        } else {
-            sum.wrapping_add(operand)
-        }
+    fn plus(self, other: i32) -> i32 {
+        self.wrapping_add(other)
     }
 
-    fn element(&mut self, _operation: u8, sum: i32) -> i32 {
-        sum
+    fn times(self, weight: i32) -> i32 {
+        self.wrapping_mul(weight)
     }
 }
+
+/// An operation sums its operands modulo 2^32, the one of its weighted source first multiplied by its weight.
+pub type WholeCells = SummingCells<i32>;
 
 impl WholeCells {
     /// The value of an operation: the exact sum in the integers, wrapped once.

@@ -1,9 +1,8 @@
 mod Taps
+mod Gathering
 pub mod Histories
-mod Operands
 mod Filling
 mod Planning
-mod Asking
 mod Simulating
 mod Channels
 mod Cycles

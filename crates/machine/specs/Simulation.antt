@@ -6,7 +6,7 @@ use Rattle.words.specs.Designs.{InRange, feed_at}
 use Rattle.bench.specs.Firing.{place_in}
 use Rattle.bench.specs.Orders.{Ranked}
 use Rattle.cells.specs.Meaning.{Meaning}
-use Rattle.machine.specs.declared.tap.Plan.{Plan}
+use Rattle.machine.specs.declared.tap.Cell.{Cell}
 use Rattle.machine.specs.Values.{Solves, SolvesBefore, output}
 use Rattle.machine.specs.Plans.{Whole}
 use Rattle.machine.specs.Refusals.{simulate_fault}
@@ -16,8 +16,8 @@ use Rattle.machine.specs.Buffers.{rest_in, value_in, input_in}
 abbrev pub Filled : {E : Type 0} → ℕ → List ℕ → (ℕ → ℕ → E) → List E → E → ℕ → ℕ → Type 0
 Filled n order v history d t r = (i s : ℕ) → i < n → ((s < t) ⊎ ((s ≡ t) × (place_in order i < r))) → value_in n history d i s ≡ v i s
 
--- Firing a plan at time t: a history that holds a design's values before t then holds those of t too.
-abbrev pub Advances : {E A : Type 0} → Plan → Meaning E A → List E → List E → List E → List E → ℕ → Type 0
+-- Firing the cells of a plan at time t: a history that holds a design's values before t then holds those of t too.
+abbrev pub Advances : {E A : Type 0} → List Cell → Meaning E A → List E → List E → List E → List E → ℕ → Type 0
 Advances {E} plan m rest inputs before after t =
     (g : Graph) (order : List ℕ) → InRange g → Ranked g.count (feed_at g) order → Whole g order plan →
     (d : E) (v : ℕ → ℕ → E) → Solves g m (rest_in g.count rest d) (input_in inputs d) v → Filled g.count order v before d t 0 → Filled g.count order v after d (t + 1) 0

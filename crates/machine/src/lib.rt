@@ -2,8 +2,8 @@
 #![tactic(auto)]
 
 mod firing;
-mod history;
-mod plan;
+mod moment;
+pub mod plan;
 pub mod simulator;
 pub mod tap;
 pub mod values;

@@ -1,12 +1,15 @@
 //! What a simulator fires at each time: the nodes in order, each with its taps.
 
-ghost use Rattle.std.specs.Prelude.{◌<◌};
+ghost use Rattle.std.specs.Prelude.{◌<◌, ℕ, slice_index_or};
+ghost use Rattle.arrayvec.specs.ArrayVec.{array_vec_len};
 ghost use Rattle.words.specs.Designs.{feed_at};
 ghost use Rattle.bench.specs.Orders.{Ranked};
 ghost use Rattle.bench.specs.Retimings.{order, at_rest};
-ghost use Rattle.machine.specs.Plans.{Planned, Whole};
+ghost use Rattle.machine.specs.declared.tap.Cell.{Cell};
+ghost use Rattle.machine.specs.Plans.{Planned, Whole, Ready};
 
-use crate::tap::{Cell, Plan, Tap};
+use crate::tap::{Cell, Tap};
+use arrayvec::ArrayVec;
 use bench::bench::Bench;
 use words::design::Design;
 use words::graph::{MAX_NODES, SOURCES};
@@ -17,57 +20,39 @@ impl Cell {
         requires { node < design.now.graph.count }
         ensures { Planned design.now.graph node result }
     {
-        let mut taps = [Tap {
-            source: 0,
-            delay: 0,
-        }; SOURCES];
-        let mut count = 0;
+        let mut taps = ArrayVec::new();
         for source in 0..SOURCES {
-            let feed = design.feed(node, source);
-            if let Some(delay) = feed {
-                taps[count] = Tap {
-                    source: source as u8,
-                    delay,
-                };
-                count += 1;
+            if let Some(delay) = design.feed(node, source) {
+                let source = source as u8;
+                taps.push(Tap { source, delay });
             }
         }
         Cell {
             node,
             operation: design.operation(node).unwrap_or(0),
             taps,
-            count,
         }
     }
+}
 
-    /// Nothing to fire yet.
-    fn blank() -> Cell {
-        Cell {
-            node: 0,
-            operation: 0,
-            taps: [Tap {
-                source: 0,
-                delay: 0,
-            }; SOURCES],
-            count: 0,
-        }
-    }
+/// The nodes of a design in the order in which they fire. Each is one of them, and its taps hear them or the input.
+#[derive(Drop)]
+pub struct Plan {
+    pub cells: ArrayVec<Cell, MAX_NODES>,
+    ghost ready: { (k : ℕ) (d : Cell) → k < array_vec_len cells → Ready (array_vec_len cells) (slice_index_or cells.items k d) },
 }
 
 impl Plan {
     /// The nodes of a bench's design, in its own order.
     pub(crate) fn of(bench: &Bench) -> Plan
-        ensures whole { Whole bench.now.design.graph (order bench.now.design.graph at_rest) result }
+        ensures whole { Whole bench.now.design.graph (order bench.now.design.graph at_rest) result.cells.items }
         ensures ranked { Ranked bench.now.design.graph.count (feed_at bench.now.design.graph) (order bench.now.design.graph at_rest) }
     {
         let order = bench.source_order();
-        let mut cells = [Cell::blank(); MAX_NODES];
-        for rank in 0..order.count {
-            cells[rank] = Cell::of(bench.design(), order.nodes[rank] as usize);
+        let mut cells = ArrayVec::new();
+        for node in &order.nodes[..order.count] {
+            cells.push(Cell::of(bench.design(), usize::from(*node)));
         }
-        Plan {
-            cells,
-            count: order.count,
-        }
+        Plan { cells }
     }
 }

@@ -1,12 +1,13 @@
 //! The source simulator: the values of a design in time, whatever its bench was slowed and lagged by.
 
-ghost use Rattle.std.specs.Prelude.{◌≡◌, ◌≤◌};
+ghost use Rattle.std.specs.Prelude.{◌≡◌, ◌+◌, ◌*◌, ◌≤◌, OnOk};
 ghost use Rattle.bench.specs.Refusals.{unless};
 ghost use Rattle.machine.specs.Refusals.{simulate_fault};
 ghost use Rattle.machine.specs.Simulation.{Simulates};
 
-use crate::history::heard;
-use crate::tap::{Plan, Tap};
+use crate::moment::Moment;
+use crate::plan::Plan;
+use crate::tap::Tap;
 use bench::bench::Bench;
 use cells::library::CellLibrary;
 use words::faults::{Fault, MachineQuestion, Question};
@@ -15,6 +16,7 @@ use words::faults::{Fault, MachineQuestion, Question};
 pub const MAX_TIMES: usize = 65536;
 
 /// Questions 17, 20, 21 and 22, of the lengths that are given for a design of `count` nodes.
+#[tactic(auto, unfolding(crate::specs::Refusals::simulate_fault))]
 fn ask_lengths(
     count: usize,
     rest: usize,
@@ -23,7 +25,11 @@ fn ask_lengths(
     outputs: usize,
 ) -> Result<(), Fault>
     requires { count ≤ 32 }
-    ensures { result ≡ unless (simulate_fault count rest times history outputs) tt }
+    ensures answer { result ≡ unless (simulate_fault count rest times history outputs) tt }
+    ensures rest { OnOk result (rest ≡ count + 1) }
+    ensures times { OnOk result (times ≤ 65536) }
+    ensures history { OnOk result (count * times ≤ history) }
+    ensures outputs { OnOk result (times ≤ outputs) }
 {
     if rest != count + 1 {
         return Err(MachineQuestion::RestRow.refused(rest, count + 1));
@@ -54,8 +60,9 @@ pub fn simulate<L: CellLibrary>(
     ensures same { L.meaning library.new ≡ L.meaning library.old }
 {
     let design = bench.design();
+    let count = design.count();
     ask_lengths(
-        design.count(),
+        count,
         rest.len(),
         inputs.len(),
         history.len(),
@@ -67,9 +74,15 @@ pub fn simulate<L: CellLibrary>(
         source: output.node as u8,
         delay: output.delay,
     };
-    for time in 0..inputs.len() {
-        plan.fire(library, rest, inputs, history, time);
-        outputs[time] = heard(plan.count, rest, inputs, history, time, tap);
+    for (time, place) in outputs[..inputs.len()].iter_mut().enumerate() {
+        let moment = Moment {
+            count,
+            rest,
+            inputs,
+            time,
+        };
+        plan.fire(library, &moment, history);
+        *place = moment.hears(history, tap);
     }
     Ok(())
 }

@@ -125,7 +125,7 @@ fn print_answer(rt: &HostRuntime, bench: &Bench, case: Case<'_>) -> anyhow::Resu
             let weights = read_weights::<f32>(case.weights)?;
             print_layered(rt, bench, FloatCells { weights }, case, bubbles)
         }
-        "compare" => print_layered(rt, bench, CompareCells {}, case, bubbles),
+        "compare" => print_layered(rt, bench, CompareCells, case, bubbles),
         _ => Err(anyhow!("a line has no such cells")),
     }
 }

@@ -148,7 +148,7 @@ fn float_cells_round_twice(rt: HostRuntime) {
 
 #[test]
 fn compare_cells_choose(rt: HostRuntime) {
-    let mut library = CompareCells {};
+    let mut library = CompareCells;
     assert_eq!(rt; library.value(2, &[(0, 4), (1, 9), (2, 3)]), 9);
     assert_eq!(rt; library.value(3, &[(0, 4), (1, 9), (2, 3)]), 3);
     assert_eq!(rt; library.value(0, &[]), 0);
@@ -158,7 +158,7 @@ fn compare_cells_choose(rt: HostRuntime) {
 #[test]
 fn an_absent_operand_is_heard(rt: HostRuntime) {
     let mut library = Bubble {
-        below: CompareCells {},
+        below: CompareCells,
     };
     assert_eq!(rt; library.value(2, &[(0, Some(4)), (1, Some(9))]), Some(9));
     assert_eq!(rt;

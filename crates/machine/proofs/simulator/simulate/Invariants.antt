@@ -9,9 +9,10 @@ abbrev pub invariant-loop-time : goal.invariant-loop-time
 invariant-loop-time g l =
     let m = g.L.CellLibrary.meaning in
     let graph = l.bench.design.graph in
-    (m l.library ≡ m l.initial.library)
-    × (drop (graph.count * length l.inputs) l.history ≡ drop (graph.count * length l.inputs) l.initial.history)
-    × (drop (length l.inputs) l.outputs ≡ drop (length l.inputs) l.initial.outputs)
-    × ((d : g.row.L-Elem.Denot) (v : ℕ → ℕ → g.row.L-Elem.Denot) → Solves graph (m l.initial.library) (rest_in graph.count l.rest d) (input_in l.inputs d) v →
-    Filled graph.count (order graph at_rest) v l.history d l.time 0
-    × ((s : ℕ) → s < l.time → get_or l.outputs s d ≡ output graph (rest_in graph.count l.rest d) v s))
+    record {
+      same : m l.library ≡ m l.initial.library;
+      past_history : drop (graph.count * length l.inputs) l.history ≡ drop (graph.count * length l.inputs) l.initial.history;
+      filled : (d : g.row.L-Elem.Denot) (v : ℕ → ℕ → g.row.L-Elem.Denot) → Solves graph (m l.initial.library) (rest_in graph.count l.rest d) (input_in l.inputs d) v →
+          Filled graph.count (order graph at_rest) v l.history d l.time 0
+          × ((s : ℕ) → s < l.time → get_or l.place-items s d ≡ output graph (rest_in graph.count l.rest d) v s);
+    }

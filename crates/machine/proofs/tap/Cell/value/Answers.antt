@@ -1,77 +1,58 @@
-use Rattle.std.proofs.Common.{◌≡◌, ℕ, ◌-◌, ◌<◌, ◌≤◌, true, List, map, length, get_or, take, sym, ap, ◌∙◌, subst, ⊎_elim, arith}
-use native.Mathlib.Nat.{sub-zero}
-use Rattle.std.proofs.ByRecursion.{All-get_or}
+use Rattle.std.proofs.Common.{◌≡◌, ℕ, ◌+◌, ◌<◌, ◌≤◌, true, List, map, length, get_or, take, sym, ap, ◌∙◌, subst, ⊎_elim, arith}
+use Rattle.std.proofs.lemmas.List.{get_or-map, length-map}
 use Rattle.std.proofs.lemmas.Bool.{cases_eq}
 use Rattle.words.specs.Designs.{is_source, input}
-use Rattle.cells.specs.Meaning.{applied}
+use Rattle.cells.specs.Meaning.{Meaning, Operand, gathered, applied}
+use Rattle.machine.proofs.Gathering.{gathered_more, applied_all}
 use Rattle.machine.specs.declared.tap.Tap.{Tap}
-use Rattle.machine.specs.declared.tap.Cell.{Cell}
 use Rattle.machine.specs.Values.{operand}
-use Rattle.machine.specs.Plans.{taps_in, Ready}
 use Rattle.machine.specs.Buffers.{heard_in}
 use Rattle.machine.proofs.Histories.{source_node}
-use Rattle.machine.proofs.Operands.{gathered_tap, applied_taps}
 use Rattle.machine.proofs.tap.Cell.value.Goals as goal
 
 -- what is read past a row of taps, never met
 abbrev first_tap : Tap
 first_tap = record { source = 0; delay = 0 }
 
--- the part of the row that is gone through
-part : (cell : Cell) → take (cell.count - 0) cell.taps ≡ taps_in cell
-part cell = ap (λ n. take n cell.taps) (sub-zero cell.count)
+source_low : (n j : ℕ) → n ≤ 32 → is_source n j ≡ true → j ≤ 32
+source_low n j few is = ⊎_elim (λ (e : j ≡ input). omega arith) (λ (other : j ≡ input → ⊥). omega (arith, source_node n j is other)) (cases_eq j input)
 
-module _ (n : ℕ) (few : n ≤ 32) (cell : Cell) (ready : Ready n cell) (i : ℕ) (l : i < length (take (cell.count - 0) cell.taps)) where
-  inside : i < length (taps_in cell)
-  inside = subst (λ (ts : List Tap). i < length ts) (part cell) l
+-- one tap more, read in a row that is the cell's taps
+module _ {E A : Type 0} (m : Meaning E A) (o : ℕ) (f : Tap → Operand E) (taps row : List Tap) (same : row ≡ taps) where
+  inside : (i : ℕ) → i < length row → i < length taps
+  inside i l = subst (λ (ts : List Tap). i < length ts) same l
 
-  tap_source : is_source n (get_or (take (cell.count - 0) cell.taps) i first_tap).source ≡ true
-  tap_source =
-      subst (λ (ts : List Tap). is_source n (get_or ts i first_tap).source ≡ true) (sym (part cell))
-      (All-get_or (λ (tap : Tap). is_source n tap.source ≡ true) (taps_in cell) i first_tap inside ready.taps)
-
-  source_low : (get_or (take (cell.count - 0) cell.taps) i first_tap).source ≤ 32
-  source_low =
-      let j = (get_or (take (cell.count - 0) cell.taps) i first_tap).source in
-      ⊎_elim (λ (e : j ≡ input). omega arith) (λ (other : j ≡ input → ⊥). omega (arith, source_node n j tap_source other)) (cases_eq j input)
-
-pub heard-operand-requires : goal.heard-operand-requires
-heard-operand-requires g c =
-    record {
-      few = c.requires.few;
-      source = tap_source c.args.count c.requires.few.0 c.args.self.now c.requires.ready c.loop-tap.tap-index c.loop-tap-test.true;
-      rest = c.requires.rest;
-      time = c.requires.time;
-      history = c.requires.history;
-    }
+  one_more : (n : Meaning E A) (i : ℕ) (sum more : A) (x : E) → n ≡ m → i < length row → sum ≡ gathered m o (take i (map f taps)) →
+      x ≡ (f (get_or row i first_tap)).1 → more ≡ n.next o (f (get_or row i first_tap)).0 sum x → more ≡ gathered m o (take (i + 1) (map f taps))
+  one_more n i sum more x is_m l so_far heard is =
+      let y : Operand E = f (get_or row i first_tap) in
+      let at : y ≡ get_or (map f taps) i y = ap (λ (ts : List Tap). f (get_or ts i first_tap)) same ∙ sym (get_or-map f taps i first_tap y (inside i l)) in
+      gathered_more m o (map f taps) n i sum more y is_m (omega (arith, length-map taps f, inside i l)) at so_far (is ∙ ap (λ (e : E). n.next o y.0 sum e) heard)
 
 pub loop-tap-preserved : goal.loop-tap-preserved
 loop-tap-preserved g c =
     let m = g.L.CellLibrary.meaning in
-    let n = c.args.count in
+    let at = c.args.moment.now in
     let cell = c.args.self.now in
+    let row = c.as_slice-tap-items in
     let i = c.loop-tap.tap-index in
-    let tap = get_or (take (cell.count - 0) cell.taps) i first_tap in
-    let l = inside n c.requires.few.0 cell c.requires.ready i c.loop-tap-test.true in
-    let low = source_low n c.requires.few.0 cell c.requires.ready i c.loop-tap-test.true in (
-      c.next-sum.ensures.same ∙ c.loop-tap.invariant.0,
-      λ d.
-          let hear = heard_in n c.args.rest.now c.args.inputs.now c.args.history.now d c.args.time in
-          gathered_tap (m c.first-sum.new.self) (m c.loop-tap.library) cell.operation (operand hear) (taps_in cell) i first_tap c.loop-tap.sum c.next-sum.result
-          c.loop-tap.invariant.0 l (c.loop-tap.invariant.1 d)
-          (c.next-sum.ensures.value low ∙ ap (λ x. (m c.loop-tap.library).next cell.operation tap.source c.loop-tap.sum x) (c.heard-operand.ensures d)
-          ∙ ap (λ (ts : List Tap). (m c.loop-tap.library).next cell.operation (get_or ts i first_tap).source c.loop-tap.sum (hear (get_or ts i first_tap).source (get_or ts i first_tap).delay)) (part cell)),
-    )
+    let source : is_source at.count (get_or row.result.now i first_tap).source ≡ true =
+    subst (λ (ts : List Tap). is_source at.count (get_or ts i first_tap).source ≡ true) (sym row.ensures.value)
+    (c.requires.ready.1 i first_tap (subst (λ (ts : List Tap). i < length ts) row.ensures.value c.loop-tap-test.true)) in
+    record {
+      same = cc;
+      so_far = λ d.
+          one_more (m c.first-sum.new.self) cell.operation (operand (heard_in at.count at.rest.now at.inputs.now c.args.history.now d at.time)) cell.taps.items row.result.now row.ensures.value
+          (m c.loop-tap.library) i c.loop-tap.sum c.next-sum.result c.hears-operand.result c.loop-tap.invariant.same c.loop-tap-test.true (c.loop-tap.invariant.so_far d) (c.hears-operand.ensures d)
+          (c.next-sum.ensures.value (source_low at.count _ at.few source));
+    }
 
-pub returns : goal.returns
-returns g c =
+pub returns-clause-value : goal.returns-clause-value
+returns-clause-value g c =
     let m = g.L.CellLibrary.meaning in
     let cell = c.args.self.now in
-    record {
-      value = λ d.
-          let hear = heard_in c.args.count c.args.rest.now c.args.inputs.now c.args.history.now d c.args.time in
-          applied_taps (m c.first-sum.new.self) (m c.loop-tap.library) cell.operation (operand hear) (taps_in cell) c.loop-tap.tap-index c.loop-tap.sum c.element.result
-          c.loop-tap.invariant.0 (subst (λ (ts : List Tap). length ts ≤ c.loop-tap.tap-index) (part cell) c.loop-tap-test.false) (c.loop-tap.invariant.1 d) c.element.ensures.value
-          ∙ ap (λ q. applied q cell.operation (map (operand hear) (taps_in cell))) c.first-sum.ensures.same;
-      same = c.element.ensures.same ∙ c.loop-tap.invariant.0 ∙ c.first-sum.ensures.same;
-    }
+    λ d.
+    let hear = operand (heard_in c.args.moment.now.count c.args.moment.now.rest.now c.args.moment.now.inputs.now c.args.history.now d c.args.moment.now.time) in
+    applied_all (m c.first-sum.new.self) cell.operation (map hear cell.taps.items) (m c.loop-tap.library) c.loop-tap.tap-index c.loop-tap.sum c.element.result c.loop-tap.invariant.same
+    (omega (arith, length-map cell.taps.items hear, ap length c.as_slice-tap-items.ensures.value, c.loop-tap-test.false)) (c.loop-tap.invariant.so_far d) c.element.ensures.value
+    ∙ ap (λ q. applied q cell.operation (map hear cell.taps.items)) c.first-sum.ensures.same
