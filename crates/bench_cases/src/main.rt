@@ -8,7 +8,7 @@ use bench::verdict::Verdict;
 use cases::designs::parse_design;
 use cases::lines::print_cases;
 use cases::moves::Move;
-use cases::rows::print_row;
+use cases::rows::{Bits, print_row};
 use std::io;
 use words::faults::{DesignFault, Fault};
 use words::graph::MAX_NODES;
@@ -73,10 +73,7 @@ fn print_verdict(rt: &impl Print, bench: &Bench) -> io::Result<()> {
 fn print_program(rt: &impl Print, bench: &Bench) -> io::Result<()> {
     let mut words = [0; MAX_PROGRAM_WORDS];
     match bench.emit(&mut words) {
-        Ok(count) => {
-            let program = words[..count].iter().map(|word| format_args!("{word:08X}"));
-            print_row(rt, "program", program)
-        }
+        Ok(count) => print_row(rt, "program", words[..count].iter().copied().map(Bits)),
         Err(fault) => println!(rt; "program {fault}"),
     }
 }
@@ -92,7 +89,11 @@ fn print_bench(rt: &impl Print, bench: &Bench) -> io::Result<()> {
 }
 
 /// Makes the moves of a case, and prints what each is answered and how the bench stands at the end.
-fn print_moves<R: AllocGlobal + Print>(rt: &R, mut bench: Bench, moves: &str) -> anyhow::Result<()> {
+fn print_moves<R: AllocGlobal + Print>(
+    rt: &R,
+    mut bench: Bench,
+    moves: &str,
+) -> anyhow::Result<()> {
     println!(rt; "ok")?;
     for text in moves.split_terminator(';') {
         match Move::parse(rt.alloc(), text)?.make(&mut bench) {
