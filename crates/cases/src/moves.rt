@@ -1,5 +1,9 @@
 //! The moves of a case.
 
+ghost use Rattle.std.specs.Prelude.{◌≡◌};
+ghost use Rattle.bench.specs.Refusals.{unless, unless_kept};
+ghost use Rattle.cases.specs.Moves.{move_fault, retimed};
+
 use anyhow::bail;
 use bench::bench::Bench;
 use std::alloc::Global;
@@ -29,8 +33,12 @@ impl Move {
         }
     }
 
-    /// Makes the move on a bench.
-    pub fn make(&self, bench: &mut Bench) -> Result<(), Fault> {
+    /// Makes the move on a bench. A refused move changes nothing.
+    pub fn make(&self, bench: &mut Bench) -> Result<(), Fault>
+        ensures answer { result ≡ unless (move_fault bench.old.design.graph bench.old.retiming self.now) tt }
+        ensures design { bench.new.design ≡ bench.old.design }
+        ensures retiming { bench.new.retiming ≡ unless_kept (move_fault bench.old.design.graph bench.old.retiming self.now) (retimed bench.old.design.graph bench.old.retiming self.now) bench.old.retiming }
+    {
         match self {
             Move::Lag(shifts) => bench.lag(shifts),
             Move::Slow(factor) => bench.slow(*factor),
