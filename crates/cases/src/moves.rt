@@ -4,6 +4,7 @@ ghost use Rattle.std.specs.Prelude.{◌≡◌};
 ghost use Rattle.bench.specs.Refusals.{unless, unless_kept};
 ghost use Rattle.cases.specs.Moves.{move_fault, retimed};
 
+use crate::rows::parse_row;
 use anyhow::bail;
 use bench::bench::Bench;
 use std::alloc::Global;
@@ -21,12 +22,7 @@ impl Move {
     /// Reads `lag SHIFT SHIFT ..`, `slow FACTOR` or `settle`.
     pub fn parse(alloc: Global, text: &str) -> anyhow::Result<Move> {
         match text.split_once(' ').unwrap_or((text, "")) {
-            ("lag", shifts) => Ok(Move::Lag(
-                shifts
-                    .split_whitespace()
-                    .map(|shift| shift.parse::<i32>().map_err(anyhow::Error::from))
-                    .try_collect(alloc)?,
-            )),
+            ("lag", shifts) => Ok(Move::Lag(parse_row(alloc, shifts, str::parse::<i32>)?)),
             ("slow", factor) => Ok(Move::Slow(factor.parse::<u32>()?)),
             ("settle", "") => Ok(Move::Settle),
             _ => bail!("a line has no such move"),

@@ -1,7 +1,9 @@
-//! Rows of what is printed.
+//! Rows: items in a line of a case, and in a line that is printed.
 
 ghost use Rattle.std.specs.Iterator.{IsFinite};
 
+use std::alloc::Global;
+use std::error::Error;
 use std::fmt::Display;
 use std::{fmt, io};
 
@@ -13,6 +15,19 @@ impl Display for Bits {
     fn fmt<W: fmt::Write>(&self, f: &mut fmt::Formatter<W>) -> fmt::Result {
         write!(f, "{:08X}", self.0)
     }
+}
+
+/// Reads the items of a text, which white space parts.
+pub(crate) fn parse_row<T: Drop, E: Error, F: Fn(&str) -> Result<T, E>>(
+    alloc: Global,
+    text: &str,
+    parse: F,
+) -> anyhow::Result<Vec<T>>
+    requires { F.IsAlwaysCallable parse }
+{
+    text.split_whitespace()
+        .map(|item| parse(item).map_err(anyhow::Error::from))
+        .try_collect(alloc)
 }
 
 /// Prints a name, and each item after a space.
