@@ -13,3 +13,4 @@ pub mod Refusals
 pub mod Listing
 pub mod Opening
 pub mod Rewriting
+pub mod Answer

@@ -7,6 +7,7 @@ mod delays;
 mod emission;
 mod encode;
 mod firing;
+pub mod inputs;
 pub mod listing;
 mod moves;
 mod opening;

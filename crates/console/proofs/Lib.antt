@@ -1,1 +1,1 @@
-mod Within
+mod Reading

@@ -1,79 +1,43 @@
 //! The console: a design in on standard input, its words out, one a line, or one refusal line.
 #![tactic(auto)]
 
-ghost use Rattle.std.specs.Prelude.{◌≤◌, length, IfOk};
-ghost use Rattle.console.specs.Answer.{Answered};
+ghost use Rattle.std.specs.Prelude.{◌≡◌, ◌≤◌, take, vec_len, IfOk, IfSome};
 
-use bench::listing::list_design;
+use bench::inputs::{MAX_TEXT, list_input};
+use std::alloc::Global;
 use std::io;
 use std::io::{Read, Write};
 use std::process::ExitCode;
 use words::bytes::MAX_BYTES;
-use words::faults::Fault;
-use words::input::InputWords;
-use words::reader::read_design;
 
-/// How many bytes the longest listing has: 1,091 lines of nine bytes.
-const MAX_TEXT: usize = 9819;
-
-/// Why the program ends with status 1.
-#[derive(Drop)]
-enum Stopped {
-    /// The input was refused, and its line printed.
-    Refused,
-    /// A stream failed.
-    Stream(io::Error),
-}
-
-impl From<io::Error> for Stopped {
-    fn from(error: io::Error) -> Stopped {
-        Stopped::Stream(error)
-    }
-}
-
-/// Lists the words of the design in an input's bytes.
-fn answer(bytes: &[u8], text: &mut [u8]) -> Result<usize, Fault>
-    ensures { Answered bytes.now text.old text.new result }
+/// Reads an input's first 4,368 bytes, or all if there are fewer.
+fn read_input<R: Read + Drop>(alloc: Global, input: R) -> io::Result<Vec<u8>>
+    ensures few { IfOk result (λ bytes. vec_len bytes ≤ MAX_BYTES) }
+    ensures first { IfOk result (λ bytes. IfSome (R.remaining input) (λ given. bytes.items ≡ take MAX_BYTES given)) }
 {
-    let input = InputWords::try_from(bytes)?;
-    let design = read_design(input.as_slice())?;
-    list_design(&design, text)
+    let mut bytes = Vec::new(alloc);
+    input.take(MAX_BYTES as u64).read_to_end(&mut bytes)?;
+    // No more were read; only a reader's known bytes say so to a proof.
+    bytes.truncate(MAX_BYTES);
+    Ok(bytes)
 }
 
-/// Reads until the buffer is full or the input ends.
-fn read_input(input: &mut impl Read, bytes: &mut [u8]) -> io::Result<usize>
-    ensures { IfOk result (λ n. n ≤ length bytes.new) }
-{
-    let mut count = 0;
-    while count < bytes.len() {
-        let got = input.read(&mut bytes[count..])?;
-        if got == 0 {
-            break;
-        }
-        count += got;
-    }
-    Ok(count)
-}
-
-fn run(rt: &HostRuntime) -> Result<(), Stopped> {
-    let mut bytes = [0; MAX_BYTES];
-    let count = read_input(&mut rt.stdin(), &mut bytes)?;
+/// Lists the design on standard input, or prints its refusal, and answers the exit status.
+fn run<R: AllocGlobal + Input + Print>(rt: &R) -> io::Result<ExitCode> {
+    let bytes = read_input(rt.alloc(), rt.reader())?;
     let mut text = [0; MAX_TEXT];
-    match answer(&bytes[0..count], &mut text) {
+    match list_input(&bytes, &mut text) {
         Ok(length) => {
-            rt.stdout().write_all(&text[0..length])?;
-            Ok(())
+            io::writer(rt).write_all(&text[..length])?;
+            Ok(ExitCode::SUCCESS)
         }
         Err(fault) => {
             println!(rt; "{fault}")?;
-            Err(Stopped::Refused)
+            Ok(ExitCode::FAILURE)
         }
     }
 }
 
 fn main(rt: HostRuntime) -> ExitCode {
-    match run(&rt) {
-        Ok(()) => ExitCode::SUCCESS,
-        Err(_) => ExitCode::FAILURE,
-    }
+    run(&rt).unwrap_or(ExitCode::FAILURE)
 }

@@ -1,6 +1,7 @@
 //! The elements of a case: read from a line, filled into the buffers and printed.
 
-use std::io;
+use cases::rows::Bits;
+use std::fmt;
 use std::num::{f32_from_bits_with_nan, f32_to_bits_with_nan};
 
 /// An element of a cell library, as a line has it.
@@ -10,7 +11,17 @@ pub trait Element: Copy + PartialEq {
 
     fn read(text: &str) -> anyhow::Result<Self>;
 
-    fn show(self, rt: &HostRuntime) -> io::Result<()>;
+    fn write<W: fmt::Write>(self, f: &mut fmt::Formatter<W>) -> fmt::Result;
+}
+
+/// An element as it is printed.
+#[derive(Drop)]
+pub struct Shown<E>(pub E);
+
+impl<E: Element> fmt::Display for Shown<E> {
+    fn fmt<W: fmt::Write>(&self, f: &mut fmt::Formatter<W>) -> fmt::Result {
+        self.0.write(f)
+    }
 }
 
 /// Whole cells: in decimal.
@@ -18,11 +29,11 @@ impl Element for i32 {
     const FILLER: i32 = -1_234_567_890;
 
     fn read(text: &str) -> anyhow::Result<i32> {
-        Ok(text.parse::<i32>()?)
+        Ok(text.parse()?)
     }
 
-    fn show(self, rt: &HostRuntime) -> io::Result<()> {
-        print!(rt; " {self}")
+    fn write<W: fmt::Write>(self, f: &mut fmt::Formatter<W>) -> fmt::Result {
+        write!(f, "{self}")
     }
 }
 
@@ -34,9 +45,8 @@ impl Element for f32 {
         Ok(f32_from_bits_with_nan(u32::from_str_radix(text, 16)?))
     }
 
-    fn show(self, rt: &HostRuntime) -> io::Result<()> {
-        let bits = f32_to_bits_with_nan(self);
-        print!(rt; " {bits:08X}")
+    fn write<W: fmt::Write>(self, f: &mut fmt::Formatter<W>) -> fmt::Result {
+        write!(f, "{}", Bits(f32_to_bits_with_nan(self)))
     }
 }
 
@@ -45,11 +55,11 @@ impl Element for u16 {
     const FILLER: u16 = 12345;
 
     fn read(text: &str) -> anyhow::Result<u16> {
-        Ok(text.parse::<u16>()?)
+        Ok(text.parse()?)
     }
 
-    fn show(self, rt: &HostRuntime) -> io::Result<()> {
-        print!(rt; " {self}")
+    fn write<W: fmt::Write>(self, f: &mut fmt::Formatter<W>) -> fmt::Result {
+        write!(f, "{self}")
     }
 }
 
@@ -64,10 +74,10 @@ impl<E: Element> Element for Option<E> {
         Ok(Some(E::read(text)?))
     }
 
-    fn show(self, rt: &HostRuntime) -> io::Result<()> {
+    fn write<W: fmt::Write>(self, f: &mut fmt::Formatter<W>) -> fmt::Result {
         match self {
-            Some(element) => element.show(rt),
-            None => print!(rt; " -"),
+            Some(element) => element.write(f),
+            None => write!(f, "-"),
         }
     }
 }

@@ -1,131 +1,129 @@
 //! Design E, from its words to a design and back, settled on the bench and emitted: each action, and its answer.
 #![tactic(auto)]
 
-use anyhow::anyhow;
 use bench::bench::Bench;
 use bench::rewriting::rewrite;
 use bench::verdict::Verdict;
 use bench::writer::write_design;
-use std::io;
+use examples::designs::DESIGN_E;
+use std::{fmt, io};
+use thiserror::Error;
 use words::design::Design;
 use words::faults::Fault;
-use words::graph::{INPUT, MAX_NODES, Node, Output};
+use words::graph::{INPUT, MAX_NODES, Node, SOURCES};
 use words::reader::read_design;
 
-/// Two nodes: `v0 <- z^-1 v0 + z^-0 v1`, `v1 <- z^-0 x`, and `y = z^-0 v0`.
-const DESIGN_E: [u32; 8] = [
-    0x10000002, 0x20000000, 0x30000040, 0x30000001, 0x20000021, 0x30000020, 0x40000000, 0x50000008,
-];
+/// Why the walkthrough ends early.
+#[derive(Debug, Drop, Error)]
+enum Stopped {
+    #[error("refused")]
+    Refused(#[from] Fault),
+    #[error(transparent)]
+    Stream(#[from] io::Error),
+}
 
-fn print_words(rt: &HostRuntime, words: &[u32]) -> io::Result<()> {
+/// A feed in the z-notation: a delay of k is z^-k, node j is vj, the input is x.
+#[derive(Drop)]
+struct Feed {
+    source: usize,
+    delay: u16,
+}
+
+impl fmt::Display for Feed {
+    fn fmt<W: fmt::Write>(&self, f: &mut fmt::Formatter<W>) -> fmt::Result {
+        let Feed { source, delay } = *self;
+        match source {
+            INPUT => write!(f, "z^-{delay} x"),
+            node => write!(f, "z^-{delay} v{node}"),
+        }
+    }
+}
+
+/// A node with its number: what it hears, and its operation.
+#[derive(Drop)]
+struct Heard<'a> {
+    number: usize,
+    node: &'a Node,
+}
+
+impl fmt::Display for Heard<'_> {
+    fn fmt<W: fmt::Write>(&self, f: &mut fmt::Formatter<W>) -> fmt::Result {
+        let Heard { number, node } = *self;
+        let feeds = node.feeds.iter().enumerate().filter_map(|(source, delay)| {
+            let delay = u16::from((*delay)?);
+            Some(Feed { source, delay })
+        });
+        write!(f, "v{number} <-")?;
+        for (place, feed) in feeds.enumerate() {
+            let sign = if place == 0 { "" } else { " +" };
+            write!(f, "{sign} {feed}")?;
+        }
+        let operation = node.operation;
+        write!(f, "  (operation {operation})")
+    }
+}
+
+fn print_words(rt: &impl Print, words: &[u32]) -> io::Result<()> {
     for word in words {
         println!(rt; "  {word:08X}")?;
     }
     Ok(())
 }
 
-/// A feed in the z-notation: a delay of k is z^-k, node j is vj, the input is x.
-fn print_feed(rt: &HostRuntime, source: usize, delay: u8) -> io::Result<()> {
-    if source == INPUT {
-        print!(rt; "z^-{delay} x")
-    } else {
-        print!(rt; "z^-{delay} v{source}")
-    }
-}
-
-fn print_node(rt: &HostRuntime, number: usize, node: &Node) -> io::Result<()> {
-    let operation = node.operation;
-    print!(rt; "  v{number} <- ")?;
-    let mut first = true;
-    for (source, feed) in node.feeds.iter().enumerate() {
-        if let Some(delay) = *feed {
-            if !first {
-                print!(rt; " + ")?;
-            }
-            print_feed(rt, source, delay)?;
-            first = false;
-        }
-    }
-    println!(rt; "  (operation {operation})")
-}
-
-fn print_design(rt: &HostRuntime, design: &Design) -> io::Result<()> {
+fn print_design(rt: &impl Print, design: &Design) -> io::Result<()> {
     for (number, node) in design.nodes().iter().enumerate() {
-        print_node(rt, number, node)?;
+        let heard = Heard { number, node };
+        println!(rt; "  {heard}")?;
     }
-    let Output { node, delay } = design.output();
-    println!(rt; "  y = z^-{delay} v{node}")
+    let output = design.output();
+    let feed = Feed {
+        source: output.node,
+        delay: u16::from(output.delay),
+    };
+    println!(rt; "  y = {feed}")
 }
 
-/// Reads the words and prints the design; the refusal where they are none.
-fn read_aloud(rt: &HostRuntime, words: &[u32]) -> anyhow::Result<Design> {
+/// Reads the words and prints the design.
+fn read_aloud(rt: &impl Print, words: &[u32]) -> Result<Design, Stopped> {
     let count = words.len();
     println!(rt; "read {count} words:")?;
     print_words(rt, words)?;
-    match read_design(words) {
-        Ok(design) => {
-            let nodes = design.count();
-            println!(rt; "they are a design of {nodes} nodes:")?;
-            print_design(rt, &design)?;
-            Ok(design)
-        }
-        Err(fault) => Err(refused(rt, fault)),
-    }
-}
-
-/// Prints a refusal's line.
-fn refused(rt: &HostRuntime, fault: Fault) -> anyhow::Error {
-    let _ = println!(rt; "{fault}");
-    anyhow!("refused")
-}
-
-/// Writes the design and prints its words.
-fn write_aloud(rt: &HostRuntime, design: &Design, words: &mut [u32]) -> anyhow::Result<usize> {
-    match write_design(design, words) {
-        Ok(count) => {
-            println!(rt; "written, the design is {count} words:")?;
-            Ok(count)
-        }
-        Err(fault) => Err(refused(rt, fault)),
-    }
+    let design = read_design(words)?;
+    let nodes = design.count();
+    println!(rt; "they are a design of {nodes} nodes:")?;
+    print_design(rt, &design)?;
+    Ok(design)
 }
 
 /// Writes the design back and reads it again.
-fn round_trip(rt: &HostRuntime, design: &Design) -> anyhow::Result<()> {
+fn round_trip(rt: &impl Print, design: &Design) -> Result<(), Stopped> {
     let mut words = [0; 16];
-    let count = write_aloud(rt, design, &mut words)?;
-    let Some(written) = words.get(0..count) else {
-        return Err(anyhow!("more words than the buffer has"));
-    };
+    let count = write_design(design, &mut words)?;
+    let written = &words[..count];
+    println!(rt; "written, the design is {count} words:")?;
     print_words(rt, written)?;
     let same = written == DESIGN_E.as_slice();
     println!(rt; "the words written are the words read: {same}")?;
-    let mut copy = [0; 8];
-    match rewrite(&DESIGN_E, &mut copy) {
-        Ok(again) => {
-            println!(rt; "read from the words written, the design is:")?;
-            print_design(rt, &again)?;
-            Ok(())
-        }
-        Err(fault) => Err(refused(rt, fault)),
-    }
+    let again = rewrite(&DESIGN_E, &mut [0; 8])?;
+    println!(rt; "read from the words written, the design is:")?;
+    print_design(rt, &again)?;
+    Ok(())
 }
 
-/// The current delays of one node's feeds, in the z-notation.
-fn print_node_delays(rt: &HostRuntime, bench: &Bench, node: usize, lag: u16) -> io::Result<()> {
+/// A node's lag and the current delays of its feeds, in the z-notation.
+fn print_node(rt: &impl Print, bench: &Bench, node: usize, lag: u16) -> io::Result<()> {
     print!(rt; "  v{node} lags {lag}, hears")?;
-    for source in 0..INPUT {
-        if let Some(delay) = bench.delay(node, source) {
-            print!(rt; " z^-{delay} v{source}")?;
-        }
-    }
-    if let Some(delay) = bench.delay(node, INPUT) {
-        print!(rt; " z^-{delay} x")?;
+    let feeds = (0..SOURCES).filter_map(|source| {
+        let delay = bench.delay(node, source)?;
+        Some(Feed { source, delay })
+    });
+    for feed in feeds {
+        print!(rt; " {feed}")?;
     }
     println!(rt; "")
 }
 
-fn print_verdict(rt: &HostRuntime, verdict: Verdict) -> io::Result<()> {
+fn print_verdict(rt: &impl Print, verdict: Verdict) -> io::Result<()> {
     match verdict {
         Verdict::Systolic => println!(rt; "  systolic"),
         Verdict::C1 { node, source } => {
@@ -142,64 +140,57 @@ fn print_verdict(rt: &HostRuntime, verdict: Verdict) -> io::Result<()> {
 }
 
 /// Prints K and L, each node's lag and current delays, the firing order and the verdict.
-fn print_bench(rt: &HostRuntime, bench: &Bench) -> io::Result<()> {
+fn print_bench(rt: &impl Print, bench: &Bench) -> io::Result<()> {
     let (factor, latency) = bench.timing();
     println!(rt; "  K = {factor}, L = {latency}")?;
-    for node in 0..MAX_NODES {
-        if let Some(lag) = bench.lag_of(node) {
-            print_node_delays(rt, bench, node, lag)?;
-        }
+    let lags = (0..MAX_NODES).map_while(|node| bench.lag_of(node));
+    for (node, lag) in lags.enumerate() {
+        print_node(rt, bench, node, lag)?;
     }
+    print_order(rt, bench)?;
+    print_verdict(rt, bench.verdict())
+}
+
+fn print_order(rt: &impl Print, bench: &Bench) -> io::Result<()> {
     let order = bench.order();
     print!(rt; "  firing order")?;
     for node in order.nodes.iter().take(order.count) {
         print!(rt; " v{node}")?;
     }
-    println!(rt; "")?;
-    print_verdict(rt, bench.verdict())
+    println!(rt; "")
 }
 
 /// Emits the array program and prints its words.
-fn emit_aloud(rt: &HostRuntime, bench: &Bench) -> anyhow::Result<()> {
+fn emit_aloud(rt: &impl Print, bench: &Bench) -> Result<(), Stopped> {
     let mut words = [0; 16];
-    match bench.emit(&mut words) {
-        Ok(count) => {
-            println!(rt; "emitted, the array program is {count} words:")?;
-            for word in words.iter().take(count) {
-                println!(rt; "  {word:08X}")?;
-            }
-            Ok(())
-        }
-        Err(fault) => Err(refused(rt, fault)),
-    }
+    let count = bench.emit(&mut words)?;
+    println!(rt; "emitted, the array program is {count} words:")?;
+    print_words(rt, &words[..count])?;
+    Ok(())
 }
 
 /// Opens a bench on the design, settles it and emits its program.
-fn settle_aloud(rt: &HostRuntime, design: &Design) -> anyhow::Result<()> {
-    let mut cycle = [0; MAX_NODES];
-    let bench = match Bench::open(design, &mut cycle) {
-        Ok(bench) => bench,
-        Err(fault) => return Err(refused(rt, fault)),
-    };
+fn settle_aloud(rt: &impl Print, design: &Design) -> Result<(), Stopped> {
+    let mut bench = Bench::open(design, &mut [0; MAX_NODES])?;
     println!(rt; "opened on a bench:")?;
     print_bench(rt, &bench)?;
-    let mut bench = bench;
-    match bench.settle() {
-        Ok(()) => {
-            println!(rt; "settled:")?;
-            print_bench(rt, &bench)?;
-            emit_aloud(rt, &bench)
-        }
-        Err(fault) => Err(refused(rt, fault)),
-    }
+    bench.settle()?;
+    println!(rt; "settled:")?;
+    print_bench(rt, &bench)?;
+    emit_aloud(rt, &bench)
 }
 
-fn run(rt: &HostRuntime) -> anyhow::Result<()> {
+fn run(rt: &impl Print) -> Result<(), Stopped> {
     let design = read_aloud(rt, &DESIGN_E)?;
     round_trip(rt, &design)?;
     settle_aloud(rt, &design)
 }
 
+/// Walks through, and prints a refusal's line.
 fn main(rt: HostRuntime) -> anyhow::Result<()> {
-    run(&rt)
+    let answer = run(&rt);
+    if let Err(Stopped::Refused(fault)) = &answer {
+        println!(rt; "{fault}")?;
+    }
+    Ok(answer?)
 }

@@ -1,5 +1,6 @@
 //! Design E read, written and listed, and one refusal by each question of reading and writing.
 
+use crate::buffers::shorter_buffers_stay;
 use bench::listing::list_design;
 use bench::writer::write_design;
 use examples::designs::DESIGN_E;
@@ -9,14 +10,6 @@ use words::faults::{
 };
 use words::input::InputWords;
 use words::reader::read_design;
-
-/// What reading refuses, if it does.
-fn refusal_of(words: &[u32]) -> Option<Fault> {
-    match read_design(words) {
-        Ok(_) => None,
-        Err(fault) => Some(fault),
-    }
-}
 
 fn by_words(question: WordsQuestion, place: usize) -> Option<Fault> {
     Some(question.refused(place, 0))
@@ -65,18 +58,20 @@ fn short_buffers_stay(rt: HostRuntime) -> Result<(), Fail> {
     Ok(())
 }
 
-fn too_short(place: usize, other: usize) -> Fault {
+pub(crate) fn too_short(place: usize, other: usize) -> Fault {
     BenchQuestion::Buffer.refused(place, other)
 }
 
 #[test]
 fn word_buffers_of_every_length(rt: HostRuntime) -> Result<(), Fail> {
     let design = read_design(&DESIGN_E)?;
-    for length in 0..8 {
-        let mut words = [7; 9];
-        assert!(rt; write_design(&design, &mut words[0..length]) == Err(too_short(length, 8)));
-        assert!(rt; words == [7; 9]);
-    }
+    shorter_buffers_stay(
+        &rt,
+        [7; 9],
+        8,
+        |words| write_design(&design, words).err(),
+        |length| too_short(length, 8),
+    );
     let mut words = [7; 9];
     assert_eq!(rt; write_design(&design, &mut words[0..8])?, 8);
     assert!(rt; &words[0..8] == DESIGN_E.as_slice());
@@ -87,11 +82,13 @@ fn word_buffers_of_every_length(rt: HostRuntime) -> Result<(), Fail> {
 #[test]
 fn text_buffers_of_every_length(rt: HostRuntime) -> Result<(), Fail> {
     let design = read_design(&DESIGN_E)?;
-    for length in 0..72 {
-        let mut text = [7; 73];
-        assert!(rt; list_design(&design, &mut text[0..length]) == Err(too_short(length, 72)));
-        assert!(rt; text == [7; 73]);
-    }
+    shorter_buffers_stay(
+        &rt,
+        [7; 73],
+        72,
+        |text| list_design(&design, text).err(),
+        |length| too_short(length, 72),
+    );
     let mut text = [7; 73];
     assert_eq!(rt; list_design(&design, &mut text)?, 72);
     assert_eq!(rt; text[71], b'\n');
@@ -110,42 +107,45 @@ fn one_node_lists(rt: HostRuntime) -> Result<(), Fail> {
 
 #[test]
 fn each_question_refuses(rt: HostRuntime) {
-    assert_eq!(rt; refusal_of(&[]), by_words(WordsQuestion::Word, 0));
+    assert_eq!(rt; read_design(&[]).err(), by_words(WordsQuestion::Word, 0));
     assert_eq!(rt;
-        refusal_of(&[0x10000001, 0x20000000]),
+        read_design(&[0x10000001, 0x20000000]).err(),
         by_words(WordsQuestion::Word, 2)
     );
-    assert_eq!(rt; refusal_of(&[0x20000000]), by_words(WordsQuestion::Kind, 0));
     assert_eq!(rt;
-        refusal_of(&[0x10000001, 0x30000020]),
+        read_design(&[0x20000000]).err(),
+        by_words(WordsQuestion::Kind, 0)
+    );
+    assert_eq!(rt;
+        read_design(&[0x10000001, 0x30000020]).err(),
         by_words(WordsQuestion::Kind, 1)
     );
     assert_eq!(rt;
-        refusal_of(&[0x10000000]),
+        read_design(&[0x10000000]).err(),
         by_words(WordsQuestion::Range, 0)
     );
     assert_eq!(rt;
-        refusal_of(&[0x10000021]),
+        read_design(&[0x10000021]).err(),
         by_words(WordsQuestion::Range, 0)
     );
     assert_eq!(rt;
-        refusal_of(&[0x10000001, 0x20000001]),
+        read_design(&[0x10000001, 0x20000001]).err(),
         by_words(WordsQuestion::Range, 1)
     );
     assert_eq!(rt;
-        refusal_of(&[0x10000002, 0x20000001]),
+        read_design(&[0x10000002, 0x20000001]).err(),
         by_words(WordsQuestion::Order, 1)
     );
     assert_eq!(rt;
-        refusal_of(&[0x10000001, 0x20000000, 0x30000020, 0x30000000]),
+        read_design(&[0x10000001, 0x20000000, 0x30000020, 0x30000000]).err(),
         by_words(WordsQuestion::Order, 3)
     );
     assert_eq!(rt;
-        refusal_of(&[0x10000001, 0x20000000, 0x40000000, 0x50000005]),
+        read_design(&[0x10000001, 0x20000000, 0x40000000, 0x50000005]).err(),
         by_words(WordsQuestion::End, 3)
     );
     assert_eq!(rt;
-        refusal_of(&[0x10000001, 0x20000000, 0x40000000, 0x50000004, 0]),
+        read_design(&[0x10000001, 0x20000000, 0x40000000, 0x50000004, 0]).err(),
         by_words(WordsQuestion::End, 3)
     );
 }
@@ -154,13 +154,9 @@ fn each_question_refuses(rt: HostRuntime) {
 fn left_over_bytes_refuse(rt: HostRuntime) -> Result<(), Fail> {
     let input = InputWords::try_from(b"\x10\x00\x00\x01".as_slice())?;
     assert!(rt; input.as_slice() == [0x10000001].as_slice());
-    match InputWords::try_from(b"\x10\x00\x00\x01\x20".as_slice()) {
-        Ok(_) => Err(Fail::new("accepted")),
-        Err(fault) => {
-            assert_eq!(rt; Some(fault), by_words(WordsQuestion::Word, 1));
-            Ok(())
-        },
-    }
+    let left_over = InputWords::try_from(b"\x10\x00\x00\x01\x20".as_slice());
+    assert_eq!(rt; left_over.err(), by_words(WordsQuestion::Word, 1));
+    Ok(())
 }
 
 #[test]

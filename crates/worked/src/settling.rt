@@ -1,27 +1,24 @@
 //! Design E, an FIR filter and one-node designs on the bench, and one refusal by each question of opening and moving.
 
+use crate::buffers::shorter_buffers_stay;
+use crate::reading::too_short;
 use bench::bench::Bench;
 use bench::calls::{Call, Row};
 use bench::verdict::Verdict;
 use examples::designs::{DESIGN_E, FIR};
 use std::test::Fail;
-use words::design::Design;
 use words::faults::{BenchQuestion, DesignQuestion, Fault, MachineQuestion, Question};
 use words::graph::MAX_NODES;
 use words::reader::read_design;
 
 pub(crate) fn opened(words: &[u32]) -> Result<Bench, Fault> {
-    let design = read_design(words)?;
-    let mut cycle = [0; MAX_NODES];
-    Bench::open(&design, &mut cycle)
+    Bench::open(&read_design(words)?, &mut [0; MAX_NODES])
 }
 
-/// What a call was refused by, if it was.
-pub(crate) fn refusal(answer: Result<(), Fault>) -> Option<Fault> {
-    match answer {
-        Ok(()) => None,
-        Err(fault) => Some(fault),
-    }
+fn settled(words: &[u32]) -> Result<Bench, Fault> {
+    let mut bench = opened(words)?;
+    bench.settle()?;
+    Ok(bench)
 }
 
 fn by_bench(question: BenchQuestion, place: usize, other: usize) -> Option<Fault> {
@@ -30,14 +27,6 @@ fn by_bench(question: BenchQuestion, place: usize, other: usize) -> Option<Fault
 
 pub(crate) fn by_machine(question: MachineQuestion, place: usize, other: usize) -> Option<Fault> {
     Some(question.refused(place, other))
-}
-
-/// What opening refuses, if it does.
-fn unopened(design: &Design, cycle: &mut [u8]) -> Option<Fault> {
-    match Bench::open(design, cycle) {
-        Ok(_) => None,
-        Err(fault) => Some(fault),
-    }
 }
 
 fn is_systolic(bench: &Bench) -> bool {
@@ -70,7 +59,7 @@ fn a_zero_cycle_is_shown(rt: HostRuntime) -> Result<(), Fail> {
     let design = read_design(&[0x10000001, 0x20000000, 0x30000000, 0x40000000, 0x50000005])?;
     let mut cycle = [9; 2];
     assert_eq!(rt;
-        unopened(&design, &mut cycle),
+        Bench::open(&design, &mut cycle).err(),
         Some(DesignQuestion::WellDefined.refused(1, 0))
     );
     assert!(rt; cycle == [0, 9]);
@@ -82,7 +71,7 @@ fn a_short_cycle_buffer_is_refused(rt: HostRuntime) -> Result<(), Fail> {
     let design = read_design(&DESIGN_E)?;
     let mut cycle = [9; 1];
     assert_eq!(rt;
-        unopened(&design, &mut cycle),
+        Bench::open(&design, &mut cycle).err(),
         Some(DesignQuestion::CycleBuffer.refused(1, 2))
     );
     assert!(rt; cycle == [9]);
@@ -92,14 +81,13 @@ fn a_short_cycle_buffer_is_refused(rt: HostRuntime) -> Result<(), Fail> {
 #[test]
 fn short_cycle_buffers_of_every_length(rt: HostRuntime) -> Result<(), Fail> {
     let design = read_design(&DESIGN_E)?;
-    for length in 0..2 {
-        let mut cycle = [9; 3];
-        assert_eq!(rt;
-            unopened(&design, &mut cycle[0..length]),
-            Some(DesignQuestion::CycleBuffer.refused(length, 2))
-        );
-        assert!(rt; cycle == [9; 3]);
-    }
+    shorter_buffers_stay(
+        &rt,
+        [9; 3],
+        2,
+        |cycle| Bench::open(&design, cycle).err(),
+        |length| { DesignQuestion::CycleBuffer.refused(length, 2) },
+    );
     Ok(())
 }
 
@@ -108,7 +96,7 @@ fn cycle_buffers_of_an_opened_design_stay(rt: HostRuntime) -> Result<(), Fail> {
     let design = read_design(&DESIGN_E)?;
     for length in 2..4 {
         let mut cycle = [9; 3];
-        assert_eq!(rt; unopened(&design, &mut cycle[0..length]), None);
+        assert_eq!(rt; Bench::open(&design, &mut cycle[0..length]).err(), None);
         assert!(rt; cycle == [9; 3]);
     }
     Ok(())
@@ -118,28 +106,25 @@ fn cycle_buffers_of_an_opened_design_stay(rt: HostRuntime) -> Result<(), Fail> {
 fn lags_of_design_e(rt: HostRuntime) -> Result<(), Fail> {
     let mut bench = opened(&DESIGN_E)?;
     assert_eq!(rt;
-        refusal(bench.lag(&[0, 1])),
+        bench.lag(&[0, 1]).err(),
         by_bench(BenchQuestion::Delay, 0, 1)
     );
+    assert_eq!(rt; bench.lag(&[0]).err(), by_bench(BenchQuestion::Row, 1, 2));
     assert_eq!(rt;
-        refusal(bench.lag(&[0])),
-        by_bench(BenchQuestion::Row, 1, 2)
-    );
-    assert_eq!(rt;
-        refusal(bench.lag(&[0, 4096])),
+        bench.lag(&[0, 4096]).err(),
         by_bench(BenchQuestion::Shift, 1, 0)
     );
     assert_eq!(rt;
-        refusal(bench.lag(&[-4096, 0])),
+        bench.lag(&[-4096, 0]).err(),
         by_bench(BenchQuestion::Shift, 0, 0)
     );
     assert_eq!(rt;
-        refusal(bench.lag(&[0, -1])),
+        bench.lag(&[0, -1]).err(),
         by_bench(BenchQuestion::Lag, 1, 0)
     );
     bench.lag(&[4095, 4095])?;
     assert_eq!(rt;
-        refusal(bench.lag(&[1, 1])),
+        bench.lag(&[1, 1]).err(),
         by_bench(BenchQuestion::Lag, 0, 0)
     );
     assert!(rt; bench.timing() == (1, 4095));
@@ -149,21 +134,18 @@ fn lags_of_design_e(rt: HostRuntime) -> Result<(), Fail> {
 #[test]
 fn slowing_design_e(rt: HostRuntime) -> Result<(), Fail> {
     let mut bench = opened(&DESIGN_E)?;
+    assert_eq!(rt; bench.slow(0).err(), by_bench(BenchQuestion::Factor, 0, 0));
     assert_eq!(rt;
-        refusal(bench.slow(0)),
-        by_bench(BenchQuestion::Factor, 0, 0)
-    );
-    assert_eq!(rt;
-        refusal(bench.slow(65)),
+        bench.slow(65).err(),
         by_bench(BenchQuestion::Factor, 65, 0)
     );
     bench.slow(64)?;
     assert_eq!(rt;
-        refusal(bench.slow(2)),
+        bench.slow(2).err(),
         by_bench(BenchQuestion::Slowdown, 64, 2)
     );
     assert_eq!(rt;
-        refusal(bench.settle()),
+        bench.settle().err(),
         by_bench(BenchQuestion::Slowdown, 64, 2)
     );
     assert_eq!(rt; bench.delay(0, 0), Some(64));
@@ -177,12 +159,12 @@ fn delays_of_63_and_64_slowed_by_64(rt: HostRuntime) -> Result<(), Fail> {
     assert_eq!(rt; bench.delay(0, 32), Some(4032));
     let mut longer = opened(&[0x10000001, 0x20000000, 0x30001020, 0x40000000, 0x50000005])?;
     assert_eq!(rt;
-        refusal(longer.slow(64)),
+        longer.slow(64).err(),
         by_bench(BenchQuestion::Delay, 0, 32)
     );
     let mut output = opened(&[0x10000001, 0x20000000, 0x40001000, 0x50000004])?;
     assert_eq!(rt;
-        refusal(output.slow(64)),
+        output.slow(64).err(),
         by_bench(BenchQuestion::Delay, 32, 0)
     );
     Ok(())
@@ -225,8 +207,7 @@ fn calls_in_a_list(rt: HostRuntime) -> Result<(), Fail> {
 
 #[test]
 fn design_e_emits(rt: HostRuntime) -> Result<(), Fail> {
-    let mut bench = opened(&DESIGN_E)?;
-    bench.settle()?;
+    let bench = settled(&DESIGN_E)?;
     let mut words = [7; 12];
     assert_eq!(rt; bench.emit(&mut words)?, 11);
     assert!(rt;
@@ -241,8 +222,7 @@ fn design_e_emits(rt: HostRuntime) -> Result<(), Fail> {
 
 #[test]
 fn short_program_buffers_stay(rt: HostRuntime) -> Result<(), Fail> {
-    let mut bench = opened(&DESIGN_E)?;
-    bench.settle()?;
+    let bench = settled(&DESIGN_E)?;
     let mut words = [7; 10];
     let answer = bench.emit(&mut words);
     assert!(rt; answer.is_err());
@@ -254,26 +234,16 @@ fn short_program_buffers_stay(rt: HostRuntime) -> Result<(), Fail> {
     Ok(())
 }
 
-/// What a call that answers a count was refused by, if it was.
-fn short(answer: Result<usize, Fault>) -> Option<Fault> {
-    match answer {
-        Ok(_) => None,
-        Err(fault) => Some(fault),
-    }
-}
-
 #[test]
 fn program_buffers_of_every_length(rt: HostRuntime) -> Result<(), Fail> {
-    let mut bench = opened(&DESIGN_E)?;
-    bench.settle()?;
-    for length in 0..11 {
-        let mut words = [7; 12];
-        assert_eq!(rt;
-            short(bench.emit(&mut words[0..length])),
-            by_bench(BenchQuestion::Buffer, length, 11)
-        );
-        assert!(rt; words == [7; 12]);
-    }
+    let bench = settled(&DESIGN_E)?;
+    shorter_buffers_stay(
+        &rt,
+        [7; 12],
+        11,
+        |words| bench.emit(words).err(),
+        |length| too_short(length, 11),
+    );
     let mut words = [7; 12];
     assert_eq!(rt; bench.emit(&mut words[0..11])?, 11);
     assert_eq!(rt; words[10], 0xD000000B);
@@ -283,23 +253,20 @@ fn program_buffers_of_every_length(rt: HostRuntime) -> Result<(), Fail> {
 
 #[test]
 fn short_listing_buffers_of_every_length(rt: HostRuntime) -> Result<(), Fail> {
-    let mut bench = opened(&DESIGN_E)?;
-    bench.settle()?;
-    for length in 0..99 {
-        let mut text = [7; 100];
-        assert_eq!(rt;
-            short(bench.list(&mut text[0..length])),
-            by_bench(BenchQuestion::Buffer, length, 99)
-        );
-        assert!(rt; text == [7; 100]);
-    }
+    let bench = settled(&DESIGN_E)?;
+    shorter_buffers_stay(
+        &rt,
+        [7; 100],
+        99,
+        |text| bench.list(text).err(),
+        |length| too_short(length, 99),
+    );
     Ok(())
 }
 
 #[test]
 fn listings_leave_the_rest(rt: HostRuntime) -> Result<(), Fail> {
-    let mut bench = opened(&DESIGN_E)?;
-    bench.settle()?;
+    let bench = settled(&DESIGN_E)?;
     for length in 99..101 {
         let mut text = [7; 100];
         assert_eq!(rt; bench.list(&mut text[0..length])?, 99);

@@ -1,6 +1,6 @@
 //! Cells by hand, and the source of design E simulated.
 
-use crate::settling::{by_machine, opened, refusal};
+use crate::settling::{by_machine, opened};
 use bench::bench::Bench;
 use cells::apply::apply;
 use cells::bubble::Bubble;
@@ -86,7 +86,7 @@ fn rest_rows_of_wrong_lengths(rt: HostRuntime) -> Result<(), Fail> {
         } else {
             by_machine(MachineQuestion::RestRow, length, 3)
         };
-        assert_eq!(rt; refusal(answer), wrong);
+        assert_eq!(rt; answer.err(), wrong);
         assert!(rt; (history == [7; 6]) == (length != 3));
         assert!(rt; (outputs == [7; 3]) == (length != 3));
     }
@@ -99,7 +99,7 @@ fn short_rows_stay(rt: HostRuntime) -> Result<(), Fail> {
     let mut history = [7; 5];
     let mut outputs = [7; 3];
     assert_eq!(rt;
-        refusal(simulate_e(&bench, &mut history, &mut outputs)),
+        simulate_e(&bench, &mut history, &mut outputs).err(),
         by_machine(MachineQuestion::History, 5, 6)
     );
     assert!(rt; history == [7; 5]);
@@ -107,7 +107,7 @@ fn short_rows_stay(rt: HostRuntime) -> Result<(), Fail> {
     let mut history = [7; 6];
     let mut outputs = [7; 2];
     assert_eq!(rt;
-        refusal(simulate_e(&bench, &mut history, &mut outputs)),
+        simulate_e(&bench, &mut history, &mut outputs).err(),
         by_machine(MachineQuestion::Outputs, 2, 3)
     );
     assert!(rt; history == [7; 6]);

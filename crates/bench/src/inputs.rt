@@ -1,0 +1,22 @@
+//! An input's bytes to the listing of its words.
+
+ghost use Rattle.std.specs.Prelude.{◌≤◌, length, IfOk};
+ghost use Rattle.bench.specs.Answer.{Answered};
+
+use crate::listing::list_design;
+use words::faults::Fault;
+use words::input::InputWords;
+use words::reader::read_design;
+
+/// How many bytes the longest listing has: 1,091 lines of nine bytes.
+pub const MAX_TEXT: usize = 9819;
+
+/// Lists the words of the design in an input's bytes to the front of `text`, and answers how many bytes there are.
+pub fn list_input(bytes: &[u8], text: &mut [u8]) -> Result<usize, Fault>
+    ensures answered { Answered bytes.now text.old text.new result }
+    ensures within { IfOk result (λ n. n ≤ length text.new) }
+{
+    let input = InputWords::try_from(bytes)?;
+    let design = read_design(input.as_slice())?;
+    list_design(&design, text)
+}
