@@ -1,4 +1,5 @@
 pub mod Searches
+pub mod Finding
 mod Lists
 mod Fires
 mod Ordered

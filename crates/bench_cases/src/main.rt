@@ -4,7 +4,6 @@
 use anyhow::anyhow;
 use bench::bench::Bench;
 use bench::program::MAX_PROGRAM_WORDS;
-use bench::verdict::Verdict;
 use std::io;
 use std::io::{BufRead, BufReader};
 use words::design::Design;
@@ -132,13 +131,8 @@ fn print_order(rt: &HostRuntime, bench: &Bench) -> io::Result<()> {
 
 fn print_verdict(rt: &HostRuntime, bench: &Bench) -> io::Result<()> {
     match bench.verdict() {
-        Verdict::Systolic => println!(rt; "systolic"),
-        Verdict::C1 { node, source } => println!(rt; "C1 {node} {source}"),
-        Verdict::C2 {
-            source,
-            smaller,
-            larger,
-        } => println!(rt; "C2 {source} {smaller} {larger}"),
+        Ok(()) => println!(rt; "systolic"),
+        Err(breach) => println!(rt; "{breach}"),
     }
 }
 

@@ -4,7 +4,7 @@
 use anyhow::anyhow;
 use bench::bench::Bench;
 use bench::rewriting::rewrite;
-use bench::verdict::Verdict;
+use bench::verdict::Breach;
 use bench::writer::write_design;
 use std::io;
 use words::design::Design;
@@ -125,17 +125,19 @@ fn print_node_delays(rt: &HostRuntime, bench: &Bench, node: usize, lag: u16) -> 
     println!(rt; "")
 }
 
-fn print_verdict(rt: &HostRuntime, verdict: Verdict) -> io::Result<()> {
+fn print_verdict(rt: &HostRuntime, verdict: Result<(), Breach>) -> io::Result<()> {
     match verdict {
-        Verdict::Systolic => println!(rt; "  systolic"),
-        Verdict::C1 { node, source } => {
+        Ok(()) => println!(rt; "  systolic"),
+        Err(Breach::C1 { node, source }) => {
             println!(rt; "  not systolic: v{node} hears v{source} at delay 0")
         }
-        Verdict::C2 {
-            source,
-            smaller,
-            larger,
-        } => println!(rt;
+        Err(
+            Breach::C2 {
+                source,
+                smaller,
+                larger,
+            },
+        ) => println!(rt;
             "  not systolic: v{smaller} and v{larger} hear source {source} at one delay"
         ),
     }
