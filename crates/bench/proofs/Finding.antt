@@ -15,7 +15,7 @@ use Rattle.std.proofs.lemmas.Option.{slice_get_within}
 use Rattle.std.proofs.lemmas.List.{length-take, get_or-take, get_or-map, length-map}
 use Rattle.std.proofs.lemmas.Option.{get_or_from_slice_get}
 use Rattle.std.proofs.lemmas.List.FromFn.{length-range_with_len, get_or-range_with_len, length-enumerate_from, get_or-enumerate_from}
-use Rattle.std.proofs.lemmas.Bool.{cases_lt, cond-true, cond-false}
+use Rattle.std.proofs.lemmas.Bool.{cases_lt}
 use Rattle.std.proofs.iter.Yields.{nat_range_steps}
 use Rattle.bench.specs.First.{or_else, first}
 use Rattle.bench.proofs.Searches.{first_start, first_found, first_all}
@@ -132,13 +132,13 @@ first_over_enumerate {A = A} {B = B} {v = v} {xs = xs} q chain zero' run keeps c
     ap q (sym place) ∙ computes p.0 p.1 b (omega arith) (ap (λ (y : ℕ × B). y.1) is ∙ ap (λ k. get_or xs k (v p.1)) (sym place)) c)
     ∙ ap (first q) (length-enumerate_from 0 xs)
 
--- `find` over `0..n`: f computes a test at each place
-pub first_from_find : {F : Type 0} {g : Mut F (Bor ℕ × Unit {0}) Bool} {s : Range ℕ} {f : F} {r : Option ℕ} (u : Range ℕ) (test : ℕ → Bool) (n : ℕ) → s ≡ record { start = 0; end = n }
+-- `find` over `0..n`: what f passes, q answers by itself
+pub first_where : {F : Type 0} {g : Mut F (Bor ℕ × Unit {0}) Bool} {s : Range ℕ} {f : F} {r : Option ℕ} (u : Range ℕ) (q : ℕ → Option ℕ) (n : ℕ) → s ≡ record { start = 0; end = n }
     → FindsItem nat_range_steps g s f r u
-    → ((x : ℕ) (b : Bool) (h : F) → CalledAt g f x b h → (h ≡ f) × (x < n → test x ≡ b))
-    → r ≡ first (λ i. cond (test i) (Some i) None) n
-first_from_find {s = s} {f = f} {r = r} u test n e ran computes =
-    by r (first_from_Range s u f r (λ i. i < n → test i ≡ true) (λ i. i < n → test i ≡ false) ran (λ x h k. (computes x true h k).1) (λ x h k. computes x false h k))
+    → ((x : ℕ) (b : Bool) (h : F) → CalledAt g f x b h → (h ≡ f) × (x < n → q x ≡ cond b (Some x) None))
+    → r ≡ first q n
+first_where {s = s} {f = f} {r = r} u q n e ran computes =
+    by r (first_from_Range s u f r (λ i. i < n → q i ≡ Some i) (λ i. i < n → q i ≡ None) ran (λ x h k. (computes x true h k).1) (λ x h k. computes x false h k))
   where
     from : s.start ≡ 0
     from = ap (λ (t : Range ℕ). t.start) e
@@ -146,9 +146,17 @@ first_from_find {s = s} {f = f} {r = r} u test n e ran computes =
     to : s.end ≡ n
     to = ap (λ (t : Range ℕ). t.end) e
 
-    by : (o : Option ℕ) → MatchOption o ((k : ℕ) → s.start ≤ k → k < s.end → k < n → test k ≡ false) (λ i. (s.start ≤ i) × (i < s.end) × (i < n → test i ≡ true) × ((k : ℕ) → s.start ≤ k → k < i → k < n → test k ≡ false))
-        → o ≡ first (λ i. cond (test i) (Some i) None) n
-    by None h = sym (first_all _ n (λ k l. cond-false _ _ _ (h k (omega (arith, from)) (omega (arith, to)) l)))
+    by : (o : Option ℕ) → MatchOption o ((k : ℕ) → s.start ≤ k → k < s.end → k < n → q k ≡ None) (λ i. (s.start ≤ i) × (i < s.end) × (i < n → q i ≡ Some i) × ((k : ℕ) → s.start ≤ k → k < i → k < n → q k ≡ None))
+        → o ≡ first q n
+    by None h = sym (first_all q n (λ k l. h k (omega (arith, from)) (omega (arith, to)) l))
     by (Some i) h =
         let l : i < n = omega (arith, to, h.1) in
-        sym (first_found _ n i i l (first_all _ i (λ k m. cond-false _ _ _ (h.3 k (omega (arith, from)) m (omega arith)))) (cond-true _ _ _ (h.2 l)))
+        sym (first_found q n i i l (first_all q i (λ k m. h.3 k (omega (arith, from)) m (omega arith))) (h.2 l))
+
+-- the same, where f computes a test
+pub first_from_find : {F : Type 0} {g : Mut F (Bor ℕ × Unit {0}) Bool} {s : Range ℕ} {f : F} {r : Option ℕ} (u : Range ℕ) (test : ℕ → Bool) (n : ℕ) → s ≡ record { start = 0; end = n }
+    → FindsItem nat_range_steps g s f r u
+    → ((x : ℕ) (b : Bool) (h : F) → CalledAt g f x b h → (h ≡ f) × (x < n → test x ≡ b))
+    → r ≡ first (λ i. cond (test i) (Some i) None) n
+first_from_find u test n e ran computes =
+    first_where u (λ i. cond (test i) (Some i) None) n e ran (λ x b h k. let c = computes x b h k in (c.0, λ l. ap (λ t. cond t (Some x) None) (c.1 l)))
