@@ -1,10 +1,10 @@
 -- Laws of the firing order: nodes are listed once, each after those it waits for, and none is left out where waiting rises.
-use Rattle.std.proofs.Common.{◌≡◌, ℕ, zero, suc, ◌+◌, ◌<◌, ◌≤◌, Bool, true, false, cond, not, ◌&&◌, List, [], ◌∷◌, ◌++◌, length, is_some, Some, None, Option, sym, refl, ap, ◌∙◌, subst, ⊎_elim, arith}
+use Rattle.std.proofs.Common.{◌≡◌, ℕ, zero, suc, ◌+◌, ◌-◌, ◌<◌, ◌≤◌, Bool, true, false, cond, not, ◌&&◌, List, [], ◌∷◌, ◌++◌, length, is_some, Some, None, Option, sym, refl, ap, ◌∙◌, subst, ⊎_elim, arith}
 use Rattle.std.proofs.lemmas.List.{length_push}
 use Rattle.std.proofs.lemmas.Bool.{true≢false, false≢true, both_ways, cases_Bool, and_parts, and_from, not-true, not_from_false, cond-true, cond-false}
 use Rattle.bench.specs.Firing.{has, place_in, held_by, ready, next, free, add, listed_after}
 use Rattle.bench.proofs.Searches.{first_none, first_some}
-use Rattle.bench.proofs.Lists.{has_old, has_push, place_old, place_new, place_below, Distinct, distinct_none, distinct_push, distinct_lacks}
+use Rattle.bench.proofs.Lists.{has_old, has_push, place_old, place_new, place_below, Distinct, distinct_none, distinct_push, distinct_few, distinct_lacks}
 
 some_if : (b : Bool) (j e : ℕ) → ◌≡◌ {A = Option ℕ} (cond b (Some j) None) (Some e) → (b ≡ true) × (j ≡ e)
 some_if true j e h = (refl, some_same h)
@@ -110,6 +110,22 @@ module _ (n : ℕ) (waits : ℕ → ℕ → Bool) where
       let e : k + suc m ≡ suc (k + m) = omega arith in
       let same = fired_stays k m h in
       ap (listed_after n waits) e ∙ ap (λ l. add (next n waits l) l) same ∙ ap (λ o. add o (listed_after n waits k)) h
+
+  -- so with a turn for each node that is listed
+  pub fired_one : (l : List ℕ) (x : ℕ) → l ≡ listed_after n waits (length l) → next n waits l ≡ Some x →
+      (length l < n) × (x < n) × (l ++ x ∷ [] ≡ listed_after n waits (length (l ++ x ∷ [])))
+  fired_one l x f h =
+      let fine : Fine l = subst (λ m. Fine m) (sym f) (fired_fine (length l)) in
+      let few = distinct_few n (l ++ x ∷ []) (next_fine l x fine h).distinct in (
+        omega (arith, few, length_push l x),
+        (next_some l x h).0,
+        ap (λ m. m ++ x ∷ []) f ∙ sym (fired_more (length l) x (ap (next n waits) (sym f) ∙ h)) ∙ ap (listed_after n waits) {x = suc (length l)} {y = length (l ++ x ∷ [])} (omega (arith, length_push l x)),
+      )
+
+  pub fired_all : (l : List ℕ) → l ≡ listed_after n waits (length l) → next n waits l ≡ None → l ≡ listed_after n waits n
+  fired_all l f h =
+      let few = distinct_few n l (subst (λ m. Fine m) (sym f) (fired_fine (length l))).distinct in
+      f ∙ sym (fired_stays (length l) (n - length l) (ap (next n waits) (sym f) ∙ h)) ∙ ap (listed_after n waits) {x = length l + (n - length l)} {y = n} (omega (arith, few))
 
   -- where something rises along every wait, none is left out
   module _ (height : ℕ → ℕ) (climbs : (i j : ℕ) → i < n → j < n → waits i j ≡ true → height j < height i) where

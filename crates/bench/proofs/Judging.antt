@@ -1,15 +1,15 @@
--- The verdict says systolic exactly when C1 and C2 hold.
-use Rattle.std.proofs.Common.{◌≡◌, ℕ, ◌<◌, Bool, true, false, cond, ◌&&◌, ltb, is_some, Some, None, Option, sym, refl, ap, ◌∙◌, subst, ap₂, ⊎_elim, arith}
+-- The verdict is systolic exactly when C1 and C2 hold.
+use Rattle.std.proofs.Common.{◌≡◌, ℕ, ◌<◌, Bool, true, false, cond, ◌&&◌, ltb, is_some, Some, None, Option, Result, IsOk, sym, refl, ap, ◌∙◌, subst, ap₂, ⊎_elim, arith}
 use Rattle.std.proofs.lemmas.Bool.{true≢false, false≢true, both_ways, cases_Bool, cond-false, and_from, and_right, eqb-false, eq-eqb, ne_eqb, lt-ltb, ltb-true}
 use Rattle.words.specs.declared.graph.Graph.{Graph}
 use Rattle.words.specs.Designs.{sources}
 use Rattle.bench.specs.declared.retiming.Retiming.{Retiming}
-use Rattle.bench.specs.declared.verdict.Verdict.{Verdict}
-use Rattle.bench.specs.declared.verdict.Verdict.TheVariants.{Systolic, C1, C2}
+use Rattle.bench.specs.declared.verdict.Breach.{Breach}
+use Rattle.bench.specs.declared.verdict.Breach.TheVariants.{C1, C2}
 use Rattle.bench.specs.First.{first}
 use Rattle.bench.specs.Retimings.{current_delay}
 use Rattle.bench.specs.Verdicts.{C1Holds, C2Holds, hears, clash, c1_at, c1_breach, c2_at, c2_breach, judged, verdict}
-use Rattle.bench.proofs.Searches.{first_none, first_some, first_all}
+use Rattle.bench.proofs.Searches.{first_none, first_all}
 
 hears_not : (o : Option ℕ) (d : ℕ) → ((e : ℕ) → o ≡ Some e → e ≡ d → ⊥) → hears o d ≡ false
 hears_not None d h = refl
@@ -56,44 +56,14 @@ module _ (g : Graph) (p : Retiming) where
       let there : clash (current_delay g p i j) (current_delay g p k j) ≡ true = ap₂ clash s q ∙ eq-eqb d d refl in
       absurd (both_ways _ clear (and_from _ _ (lt-ltb i k lik) there))
 
--- a breach is not systolic
-is_systolic : Verdict → Bool
-is_systolic Systolic = true
-is_systolic (C1 i j) = false
-is_systolic (C2 j i k) = false
+judged_free : (o q : Option Breach) → IsOk (judged o q) → (o ≡ None) × (q ≡ None)
+judged_free (Some e) q h = absurd (false≢true h)
+judged_free None (Some e) h = absurd (false≢true h)
+judged_free None None h = (refl, refl)
 
-shown : (b : Bool) (x e : Verdict) → ◌≡◌ {A = Option Verdict} (cond b (Some x) None) (Some e) → is_systolic x ≡ false → is_systolic e ≡ false
-shown true x e h q = subst (λ v. is_systolic v ≡ false) (same h) q
-  where
-    same : ◌≡◌ {A = Option Verdict} (Some x) (Some e) → x ≡ e
-    same s = cc
-shown false x e h q = absurd (false≢true (ap is_some h))
+module _ (g : Graph) (p : Retiming) (r : Result (Unit {0}) Breach) (e : r ≡ verdict g p) where
+  pub verdict_holds : IsOk r → C1Holds g p × C2Holds g p
+  verdict_holds h = let f = judged_free (c1_breach g p) (c2_breach g p) (subst IsOk e h) in (c1_held g p f.0, c2_held g p f.1)
 
-found : (f : ℕ → Option Verdict) (n : ℕ) → ((i : ℕ) (e : Verdict) → f i ≡ Some e → is_systolic e ≡ false) → (e : Verdict) → first f n ≡ Some e → is_systolic e ≡ false
-found f n h e s = let r = first_some f n e s in h r.0 e r.2
-
-module _ (g : Graph) (p : Retiming) where
-  c1_breaks : (e : Verdict) → c1_breach g p ≡ Some e → is_systolic e ≡ false
-  unfolding is_systolic
-  c1_breaks = found (λ i. first (c1_at g p i) g.count) g.count (λ i. found (c1_at g p i) g.count (λ j e h. shown _ (C1 i j) e h refl))
-
-  c2_breaks : (e : Verdict) → c2_breach g p ≡ Some e → is_systolic e ≡ false
-  unfolding is_systolic
-  c2_breaks =
-      found (λ j. first (λ i. first (c2_at g p j i) g.count) g.count) sources
-      (λ j. found (λ i. first (c2_at g p j i) g.count) g.count (λ i. found (c2_at g p j i) g.count (λ k e h. shown _ (C2 j i k) e h refl)))
-
-  pub systolic_free : verdict g p ≡ Systolic → (c1_breach g p ≡ None) × (c2_breach g p ≡ None)
-  unfolding is_systolic
-  systolic_free h = by (c1_breach g p) (c2_breach g p) refl refl h
-    where
-      by : (o q : Option Verdict) → c1_breach g p ≡ o → c2_breach g p ≡ q → judged o q ≡ Systolic → (c1_breach g p ≡ None) × (c2_breach g p ≡ None)
-      by (Some e) q s t h = absurd (true≢false (sym (ap is_systolic h) ∙ c1_breaks e s))
-      by None (Some e) s t h = absurd (true≢false (sym (ap is_systolic h) ∙ c2_breaks e t))
-      by None None s t h = (s, t)
-
-  pub verdict_holds : (r : Verdict) → r ≡ verdict g p → r ≡ Systolic → C1Holds g p × C2Holds g p
-  verdict_holds r e h = let f = systolic_free (sym e ∙ h) in (c1_held g p f.0, c2_held g p f.1)
-
-  pub verdict_systolic : (r : Verdict) → r ≡ verdict g p → C1Holds g p → C2Holds g p → r ≡ Systolic
-  verdict_systolic r e one two = e ∙ ap₂ judged (c1_free g p one) (c2_free g p two)
+  pub verdict_systolic : C1Holds g p → C2Holds g p → IsOk r
+  verdict_systolic one two = subst IsOk (sym (e ∙ ap₂ judged (c1_free g p one) (c2_free g p two))) refl

@@ -1,5 +1,8 @@
 pub mod Searches
+pub mod Finding
+mod Made
 mod Lists
+pub mod Listed
 mod Fires
 mod Ordered
 mod AtRest

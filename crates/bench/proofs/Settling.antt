@@ -2,31 +2,27 @@
 use Rattle.std.proofs.Common.{◌≡◌, ℕ, ◌-◌, ◌<◌, ◌≤◌, List, map, length, get_or, take, ℤ, pos, negsuc, ◌≤ℤ◌, sym, ap, ◌∙◌, subst, ⊎_elim, arith}
 use Rattle.std.specs.List.{range_with_len}
 use Rattle.std.proofs.lemmas.List.FromFn.{length-map-range_with_len, get_or-map-range_with_len}
-use Rattle.std.proofs.lemmas.List.{length-take-le, get_or_past}
+use Rattle.std.proofs.lemmas.List.{get_or_past}
 use Rattle.std.proofs.lemmas.Int.{ints}
 use Rattle.std.proofs.lemmas.Bool.{cases_lt}
 use Rattle.words.specs.declared.graph.Graph.{Graph}
 use Rattle.words.specs.Designs.{max_nodes}
-use Rattle.bench.specs.declared.order.Order.{Order}
 use Rattle.bench.specs.declared.retiming.Retiming.{Retiming}
 use Rattle.bench.specs.Firing.{place_in}
 use Rattle.bench.specs.Moves.{ranks}
-use Rattle.bench.specs.Orders.{Kept, listed, Fires}
+use Rattle.bench.specs.Orders.{Fires}
 use Rattle.bench.specs.Retimings.{order}
 use Rattle.bench.proofs.Lists.{place_below}
 
-module _ (g : Graph) (few : g.count ≤ max_nodes) (p : Retiming) (o : Order) (kept : Kept o) (e : listed o ≡ order g p) (fires : Fires g p (listed o)) where
-  pub count_whole : o.count ≡ g.count
-  count_whole = sym (length-take-le o.count o.nodes (omega (arith, kept.few, kept.nodes))) ∙ fires.whole
-
+module _ (g : Graph) (few : g.count ≤ max_nodes) (p : Retiming) (l : List ℕ) (e : l ≡ order g p) (fires : Fires g p l) where
   -- what is lent is the row of ranks
-  pub ranks_row : (row : List ℤ) (n : ℕ) → n ≡ g.count → take o.count row ≡ map (λ i. pos (place_in (listed o) i)) (range_with_len 0 o.count) → take (n - 0) row ≡ ranks g p
+  pub ranks_row : (row : List ℤ) (n : ℕ) → n ≡ g.count → take (length l) row ≡ map (λ i. pos (place_in l i)) (range_with_len 0 (length l)) → take (n - 0) row ≡ ranks g p
   ranks_row row n m h =
-      let same : n - 0 ≡ o.count = omega (arith, count_whole) in
-      ap (λ k. take k row) same ∙ h ∙ ap (λ l. map (λ i. pos (place_in l i)) (range_with_len 0 o.count)) e ∙ ap (λ k. map (λ i. pos (place_in (order g p) i)) (range_with_len 0 k)) count_whole
+      let same : n - 0 ≡ length l = omega (arith, fires.whole) in
+      ap (λ k. take k row) same ∙ h ∙ ap (λ m. map (λ i. pos (place_in m i)) (range_with_len 0 (length l))) e ∙ ap (λ k. map (λ i. pos (place_in (order g p) i)) (range_with_len 0 k)) fires.whole
 
   low : (i : ℕ) → i < g.count → place_in (order g p) i < max_nodes
-  low i l = let b = place_below (listed o) i (fires.every i l) in subst (λ l'. place_in l' i < max_nodes) e (omega (arith, fires.whole))
+  low i b = let at = place_below l i (fires.every i b) in subst (λ m. place_in m i < max_nodes) e (omega (arith, fires.whole))
 
   within : (m : ℕ) → m < max_nodes → (negsuc 4094 ≤ℤ pos m) × (pos m ≤ℤ pos 4095)
   within m l = (omega (arith, ints), omega (arith, ints))
@@ -34,9 +30,9 @@ module _ (g : Graph) (few : g.count ≤ max_nodes) (p : Retiming) (o : Order) (k
   pub ranks_fit : (i : ℕ) → (negsuc 4094 ≤ℤ get_or (ranks g p) i (pos 0)) × (get_or (ranks g p) i (pos 0) ≤ℤ pos 4095)
   ranks_fit i =
       ⊎_elim
-      (λ (l : i < g.count).
-      subst (λ z. (negsuc 4094 ≤ℤ z) × (z ≤ℤ pos 4095)) (sym (get_or-map-range_with_len (λ k. pos (place_in (order g p) k)) 0 g.count i i (pos 0) l (omega arith))) (within _ (low i l)))
-      (λ (l : g.count ≤ i).
+      (λ (b : i < g.count).
+      subst (λ z. (negsuc 4094 ≤ℤ z) × (z ≤ℤ pos 4095)) (sym (get_or-map-range_with_len (λ k. pos (place_in (order g p) k)) 0 g.count i i (pos 0) b (omega arith))) (within _ (low i b)))
+      (λ (b : g.count ≤ i).
       subst (λ z. (negsuc 4094 ≤ℤ z) × (z ≤ℤ pos 4095)) (sym (get_or_past (ranks g p) i (pos 0) (omega (arith, length-map-range_with_len (λ k. pos (place_in (order g p) k)) 0 g.count)))) (within 0 (omega arith)))
       (cases_lt i g.count)
 

@@ -6,12 +6,12 @@ use Rattle.words.specs.declared.graph.Graph.{Graph}
 use Rattle.words.specs.Designs.{feed_at}
 use Rattle.bench.specs.Cycles.{after, Cycle, AllZero}
 use Rattle.bench.specs.First.{first}
-use Rattle.bench.specs.Firing.{has, place_in, next, add, listed_after, firing}
+use Rattle.bench.specs.Firing.{has, place_in, held_by, next, add, listed_after, firing}
 use Rattle.bench.specs.Retimings.{waits, at_rest}
 use Rattle.bench.specs.Walks.{met_after, Follows, Closed}
 use Rattle.bench.proofs.AtRest.{rest_waits}
-use Rattle.bench.proofs.Fires.{fired_fine}
-use Rattle.bench.proofs.Lists.{has_at, place_at, place_below, distinct_few, distinct_lacks}
+use Rattle.bench.proofs.Fires.{fired_fine, held_some}
+use Rattle.bench.proofs.Lists.{has_at, place_at, place_below, Distinct, distinct_none, distinct_push, distinct_few, distinct_lacks}
 use Rattle.bench.proofs.Rounds.{after_next, after_last}
 use Rattle.bench.proofs.Searches.{first_none, first_some}
 
@@ -21,7 +21,7 @@ met_within path next' k l = cond-false _ _ _ (ne_eqb (suc k) (length path) (λ e
 met_last : (path : List ℕ) (next' k : ℕ) → suc k ≡ length path → met_after path next' k ≡ next'
 met_last path next' k e = cond-true _ _ _ (eq-eqb (suc k) (length path) e)
 
-pub follows_none : (w : ℕ → ℕ → Bool) (node : ℕ) → Follows w [] node
+follows_none : (w : ℕ → ℕ → Bool) (node : ℕ) → Follows w [] node
 follows_none w node k l = absurd (omega arith)
 
 -- one node more
@@ -35,7 +35,7 @@ module _ (w : ℕ → ℕ → Bool) (path : List ℕ) (node holder : ℕ) where
       get_or_append_left path (node ∷ []) 0 (suc k) (omega (arith, ne)) ∙ sym (met_within path node k (omega (arith, ne))))
       (cases_eq (suc k) (length path))
 
-  pub follows_push : Follows w path node → w node holder ≡ true → Follows w (path ++ node ∷ []) holder
+  follows_push : Follows w path node → w node holder ≡ true → Follows w (path ++ node ∷ []) holder
   follows_push f h k l =
       ⊎_elim
       (λ (o : k < length path). ap₂ w (get_or_append_left path (node ∷ []) 0 k o) (met_old k o) ∙ f k o)
@@ -43,6 +43,29 @@ module _ (w : ℕ → ℕ → Bool) (path : List ℕ) (node holder : ℕ) where
       let last : length path ≡ k = omega (arith, length_push path node) in
       ap₂ w (get_or_push path node 0 k last) (met_last (path ++ node ∷ []) holder k (omega (arith, length_push path node))) ∙ h)
       (cases_lt k (length path))
+
+-- a path of distinct nodes below n that goes on to a node that l lacks
+module _ (n : ℕ) (w : ℕ → ℕ → Bool) (l : List ℕ) where
+  pub record Path (path : List ℕ) (node : ℕ) : Type 0 where
+    pub distinct : Distinct n path
+    pub below : node < n
+    pub lacks : has l node ≡ false
+    pub follows : Follows w path node
+
+  pub path_none : (node : ℕ) → node < n → has l node ≡ false → Path [] node
+  path_none node b h = record { distinct = distinct_none n; below = b; lacks = h; follows = follows_none w node }
+
+  module _ (path : List ℕ) (node : ℕ) (p : Path path node) where
+    pub path_room : has path node ≡ false → length path < n
+    path_room new = omega (arith, distinct_few n (path ++ node ∷ []) (distinct_push n path node p.distinct p.below new), length_push path node)
+
+    pub path_push : (holder : ℕ) → has path node ≡ false → held_by n w l node ≡ Some holder → Path (path ++ node ∷ []) holder
+    path_push holder new h =
+        let s = held_some n w l node holder h in
+        record { distinct = distinct_push n path node p.distinct p.below new; below = s.0; lacks = s.2; follows = follows_push w path node holder p.follows s.1 }
+
+    pub path_closed : has path node ≡ true → Closed n w path node
+    path_closed h = record { few = distinct_few n path p.distinct; below = p.distinct.below; apart = p.distinct.apart; follows = p.follows; closes = h }
 
 -- a closed path ends in a cycle of zero delays
 module _ (g : Graph) (path : List ℕ) (node : ℕ) (closed : Closed g.count (waits g at_rest) path node) where

@@ -1,27 +1,30 @@
--- A list of nodes as the code keeps it.
-use Rattle.std.specs.Prelude.{◌≡◌, ℕ, ◌<◌, ◌≤◌, true, cond, List, length, take, Some, None, Option, slice_index, slice_index_or}
+-- Lists of nodes.
+use Rattle.std.specs.Prelude.{◌≡◌, ℕ, ◌-◌, ◌<◌, ◌≤◌, true, cond, List, ◌++◌, length, take, drop, replicate, Some, None, Option, slice_index}
+use Rattle.std.proofs.Common.{sym, ap, ◌∙◌, subst}
+use Rattle.std.proofs.lemmas.List.{length-take-le, take-append-drop}
 use Rattle.words.specs.Designs.{max_nodes}
-use Rattle.bench.specs.declared.order.Order.{Order}
 use Rattle.words.specs.declared.graph.Graph.{Graph}
 use Rattle.bench.specs.declared.retiming.Retiming.{Retiming}
 use Rattle.bench.specs.Firing.{has, place_in}
 use Rattle.bench.specs.Retimings.{current_delay}
 
--- the nodes that are listed
-abbrev pub listed : Order → List ℕ
-listed o = take o.count o.nodes
-
 -- a node's rank, if it is listed
 abbrev pub rank_of : List ℕ → ℕ → Option ℕ
 rank_of l i = cond (has l i) (Some (place_in l i)) None
 
--- the ranks are the places in the list, and past it all places are 0
-pub record Kept (o : Order) : Type 0 where
-  pub nodes : length o.nodes ≡ max_nodes
-  pub table : length o.ranks ≡ max_nodes
-  pub few : o.count ≤ max_nodes
-  pub past : (k : ℕ) → o.count ≤ k → k < max_nodes → slice_index o.nodes k ≡ 0
-  pub ranks : (i : ℕ) → i < max_nodes → slice_index_or o.ranks i None ≡ rank_of (listed o) i
+-- a list as the code keeps it: the first places of a table, and past them all places are 0
+pub record Kept (nodes : List ℕ) (count : ℕ) : Type 0 where
+  pub table : length nodes ≡ max_nodes
+  pub few : count ≤ max_nodes
+  pub past : drop count nodes ≡ replicate (max_nodes - count) 0
+
+-- so the list gives the table and the number back
+module _ (nodes : List ℕ) (count : ℕ) (k : Kept nodes count) where
+  pub kept_count : length (take count nodes) ≡ count
+  kept_count = length-take-le count nodes (subst (λ n. count ≤ n) (sym k.table) k.few)
+
+  pub kept_nodes : take count nodes ++ replicate (max_nodes - length (take count nodes)) 0 ≡ nodes
+  kept_nodes = ap (λ n. take count nodes ++ replicate (max_nodes - n) 0) kept_count ∙ ap (λ t. take count nodes ++ t) (sym k.past) ∙ take-append-drop count nodes
 
 -- what an order by delays of 0 amounts to: it lists each of n nodes once, and ranks rise along every feed of delay 0
 pub record Ranked (n : ℕ) (delay : ℕ → ℕ → Option ℕ) (l : List ℕ) : Type 0 where

@@ -1,10 +1,10 @@
 -- When a bench is systolic, and which breach is the lowest.
-use Rattle.std.specs.Prelude.{◌≡◌, ℕ, ◌<◌, ◌≤◌, Bool, false, cond, ◌&&◌, Some, None, Option, ◌==◌, ◌≢◌, nat_lt}
+use Rattle.std.specs.Prelude.{◌≡◌, ℕ, ◌<◌, ◌≤◌, Bool, false, cond, ◌&&◌, List, ◌++◌, Some, None, Option, Ok, Err, Result, ◌==◌, ◌≢◌, nat_lt, codes, decimal}
 use Rattle.words.specs.declared.graph.Graph.{Graph}
 use Rattle.words.specs.Designs.{sources}
 use Rattle.bench.specs.declared.retiming.Retiming.{Retiming}
-use Rattle.bench.specs.declared.verdict.Verdict.{Verdict}
-use Rattle.bench.specs.declared.verdict.Verdict.TheVariants.{Systolic, C1, C2}
+use Rattle.bench.specs.declared.verdict.Breach.{Breach}
+use Rattle.bench.specs.declared.verdict.Breach.TheVariants.{C1, C2}
 use Rattle.bench.specs.First.{first}
 use Rattle.bench.specs.Retimings.{current_delay}
 
@@ -27,24 +27,29 @@ clash None o = false
 clash (Some d) o = hears o d
 
 -- C1 by node, then source
-abbrev pub c1_at : Graph → Retiming → ℕ → ℕ → Option Verdict
+abbrev pub c1_at : Graph → Retiming → ℕ → ℕ → Option Breach
 c1_at g p i j = cond (hears (current_delay g p i j) 0) (Some (C1 i j)) None
 
-abbrev pub c1_breach : Graph → Retiming → Option Verdict
+abbrev pub c1_breach : Graph → Retiming → Option Breach
 c1_breach g p = first (λ i. first (c1_at g p i) g.count) g.count
 
 -- C2 by source, then the pair's smaller and larger node
-abbrev pub c2_at : Graph → Retiming → ℕ → ℕ → ℕ → Option Verdict
+abbrev pub c2_at : Graph → Retiming → ℕ → ℕ → ℕ → Option Breach
 c2_at g p j i k = cond (nat_lt i k && clash (current_delay g p i j) (current_delay g p k j)) (Some (C2 j i k)) None
 
-abbrev pub c2_breach : Graph → Retiming → Option Verdict
+abbrev pub c2_breach : Graph → Retiming → Option Breach
 c2_breach g p = first (λ j. first (λ i. first (c2_at g p j i) g.count) g.count) sources
 
 -- C1 before C2
-abbrev pub judged : Option Verdict → Option Verdict → Verdict
-judged (Some breach) o = breach
-judged None (Some breach) = breach
-judged None None = Systolic
+abbrev pub judged : Option Breach → Option Breach → Result (Unit {0}) Breach
+judged (Some breach) o = Err breach
+judged None (Some breach) = Err breach
+judged None None = Ok tt
 
-abbrev pub verdict : Graph → Retiming → Verdict
+abbrev pub verdict : Graph → Retiming → Result (Unit {0}) Breach
 verdict g p = judged (c1_breach g p) (c2_breach g p)
+
+-- the text of a breach: which of the two, and its places in decimal
+abbrev pub breach_text : Breach → List ℕ
+breach_text (C1 node source) = codes "C1 " ++ (decimal node ++ (codes " " ++ decimal source))
+breach_text (C2 source smaller larger) = codes "C2 " ++ (decimal source ++ (codes " " ++ (decimal smaller ++ (codes " " ++ decimal larger))))

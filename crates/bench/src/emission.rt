@@ -115,9 +115,8 @@ impl Bench {
         ensures put { put program.new ≡ put program.old ++ cells self.now.design.graph self.now.retiming self.now.design.graph.count }
     {
         let order = self.order();
-        for rank in 0..order.count {
-            let node = order.nodes[rank] as usize;
-            self.put_cell(node, program);
+        for node in order.nodes() {
+            self.put_cell(usize::from(*node), program);
         }
     }
 

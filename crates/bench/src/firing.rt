@@ -1,8 +1,8 @@
 //! The firing order: next is always the lowest-numbered unlisted node whose feeds of current delay 0 from nodes are all listed.
 
-ghost use Rattle.std.specs.Prelude.{◌≡◌, ◌+◌, ◌<◌, false, not, ◌&&◌, [], ◌∷◌, ◌++◌, if◌then◌else◌, Some, None};
-ghost use Rattle.bench.specs.Firing.{has, held_by, ready, next};
-ghost use Rattle.bench.specs.Orders.{Kept, listed, Fires, Ranked};
+ghost use Rattle.std.specs.Prelude.{◌≡◌, ◌<◌, false};
+ghost use Rattle.bench.specs.Firing.{has, held_by, next};
+ghost use Rattle.bench.specs.Orders.{Fires, Ranked};
 ghost use Rattle.bench.specs.Retimings.{Sound, waits, order, at_rest};
 ghost use Rattle.words.specs.Designs.{feed_at};
 
@@ -10,117 +10,50 @@ use crate::bench::Bench;
 use crate::order::Order;
 use crate::retiming::Retiming;
 use words::design::Design;
-use words::graph::MAX_NODES;
 
-impl Retiming {
-    /// Whether a node hears another at current delay 0.
-    pub(crate) fn waits(&self, design: &Design, node: usize, source: usize) -> bool
-        requires sound { Sound design.now.graph self.now }
-        requires source { source < design.now.graph.count }
-        ensures { result ≡ waits design.now.graph self.now node source }
-    {
-        let feed = design.feed(node, source);
-        let Some(delay) = feed else {
-            return false;
-        };
-        self.factor * delay as u32 + self.records[node].lag as u32
-            == self.records[source].lag as u32
-    }
+/// A design under a retiming that keeps its lags and delays in range.
+#[derive(Clone, Copy)]
+pub(crate) struct Retimed<'a> {
+    pub(crate) design: &'a Design,
+    pub(crate) retiming: Retiming,
+    ghost sound: { ∥ Sound design.now.graph retiming ∥₁ },
 }
 
-impl Order {
-    /// No node listed.
-    pub(crate) fn empty() -> Order
-        ensures kept { Kept result }
-        ensures listed { listed result ≡ [] }
+impl Retimed<'_> {
+    /// Whether a node hears another at current delay 0.
+    fn waits(&self, node: usize, source: usize) -> bool
+        requires { source < self.now.design.now.graph.count }
+        ensures { result ≡ waits self.now.design.now.graph self.now.retiming node source }
     {
-        Order {
-            nodes: [0; MAX_NODES],
-            ranks: [None; MAX_NODES],
-            count: 0,
-        }
-    }
-
-    /// Lists a node.
-    pub(crate) fn list(&mut self, node: usize)
-        requires kept { Kept self.old }
-        requires room { self.old.count < 32 }
-        requires node { node < 32 }
-        requires new { has (listed self.old) node ≡ false }
-        ensures kept { Kept self.new }
-        ensures listed { listed self.new ≡ listed self.old ++ node ∷ [] }
-        ensures count { self.new.count ≡ self.old.count + 1 }
-    {
-        self.nodes[self.count] = node as u8;
-        self.ranks[node] = Some(self.count as u8);
-        self.count += 1;
-    }
-
-    /// Whether a node is unlisted and another hears it at current delay 0.
-    fn holds(&self, design: &Design, retiming: &Retiming, source: usize, node: usize) -> bool
-        requires kept { Kept self.now }
-        requires sound { Sound design.now.graph retiming.now }
-        requires source { source < design.now.graph.count }
-        ensures { result ≡ (waits design.now.graph retiming.now node source && not (has (listed self.now) source)) }
-    {
-        if self.ranks[source].is_some() {
+        let Some(delay) = self.design.feed(node, source) else {
             return false;
-        }
-        retiming.waits(design, node, source)
+        };
+        let records = &self.retiming.records;
+        self.retiming.factor * delay as u32 + records[node].lag as u32 == records[source].lag as u32
     }
 
     /// The lowest unlisted node that a node hears at current delay 0.
-    pub(crate) fn held_by(&self, design: &Design, retiming: &Retiming, node: usize) -> Option<usize>
-        requires kept { Kept self.now }
-        requires sound { Sound design.now.graph retiming.now }
-        ensures { result ≡ held_by design.now.graph.count (waits design.now.graph retiming.now) (listed self.now) node }
+    pub(crate) fn held_by(&self, order: &Order, node: usize) -> Option<usize>
+        ensures { result ≡ held_by self.now.design.now.graph.count (waits self.now.design.now.graph self.now.retiming) order.now node }
     {
-        for source in 0..design.count() {
-            if self.holds(design, retiming, source, node) {
-                return Some(source);
-            }
-        }
-        None
-    }
-
-    /// Whether a node is unlisted and waits for none.
-    fn is_ready(&self, design: &Design, retiming: &Retiming, node: usize) -> bool
-        requires kept { Kept self.now }
-        requires sound { Sound design.now.graph retiming.now }
-        requires node { node < design.now.graph.count }
-        ensures { (if result then Some node else None) ≡ ready design.now.graph.count (waits design.now.graph retiming.now) (listed self.now) node }
-    {
-        if self.ranks[node].is_some() {
-            return false;
-        }
-        self.held_by(design, retiming, node).is_none()
+        (0..self.design.count()).find(|&source| self.waits(node, source)
+            && order.rank_of(source).is_none())
     }
 
     /// The node to be listed next, if there is one.
-    fn next(&self, design: &Design, retiming: &Retiming) -> Option<usize>
-        requires kept { Kept self.now }
-        requires sound { Sound design.now.graph retiming.now }
-        ensures { result ≡ next design.now.graph.count (waits design.now.graph retiming.now) (listed self.now) }
+    fn next(&self, order: &Order) -> Option<usize>
+        ensures { result ≡ next self.now.design.now.graph.count (waits self.now.design.now.graph self.now.retiming) order.now }
     {
-        for node in 0..design.count() {
-            if self.is_ready(design, retiming, node) {
-                return Some(node);
-            }
-        }
-        None
+        (0..self.design.count()).find(|&node| order.rank_of(node).is_none()
+            && self.held_by(order, node).is_none())
     }
 
-    /// The firing order of a design under a retiming.
-    pub(crate) fn firing(design: &Design, retiming: &Retiming) -> Order
-        requires sound { Sound design.now.graph retiming.now }
-        ensures kept { Kept result }
-        ensures listed { listed result ≡ order design.now.graph retiming.now }
+    /// The firing order.
+    pub(crate) fn firing(&self) -> Order
+        ensures { result ≡ order self.now.design.now.graph self.now.retiming }
     {
         let mut order = Order::empty();
-        for _turn in 0..design.count() {
-            let Some(node) = order.next(design, retiming) else {
-                break;
-            };
+        while let Some(node) = self.next(&order) {
             order.list(node);
         }
         order
@@ -130,19 +63,21 @@ impl Order {
 impl Bench {
     /// The firing order.
     pub fn order(&self) -> Order
-        ensures kept { Kept result }
-        ensures listed { listed result ≡ order self.now.design.graph self.now.retiming }
-        ensures fires { Fires self.now.design.graph self.now.retiming (listed result) }
+        ensures listed { result ≡ order self.now.design.graph self.now.retiming }
+        ensures fires { Fires self.now.design.graph self.now.retiming result }
     {
-        Order::firing(&self.design, &self.retiming)
+        let retimed = Retimed {
+            design: &self.design,
+            retiming: self.retiming,
+        };
+        retimed.firing()
     }
 
     /// The order of the design itself, whatever its bench was slowed and lagged by: by its own delays of 0.
     pub fn source_order(&self) -> Order
-        ensures kept { Kept result }
-        ensures listed { listed result ≡ order self.now.design.graph at_rest }
-        ensures ranked { Ranked self.now.design.graph.count (feed_at self.now.design.graph) (listed result) }
+        ensures listed { result ≡ order self.now.design.graph at_rest }
+        ensures ranked { Ranked self.now.design.graph.count (feed_at self.now.design.graph) result }
     {
-        Order::firing(&self.design, &Retiming::at_rest())
+        Retimed::at_rest(&self.design).firing()
     }
 }

@@ -2,7 +2,6 @@
 
 ghost use Rattle.std.specs.Prelude.{◌≡◌, ℕ, ◌*◌, ◌<◌, ◌≤◌, true, [], map, length, get_or, take, pos, negsuc, ◌+ℤ◌, ◌≤ℤ◌, if◌then◌else◌, Some, None, Ok, slice_index_or};
 ghost use Rattle.bench.specs.Firing.{has, place_in};
-ghost use Rattle.bench.specs.Orders.{Kept, listed};
 ghost use Rattle.bench.specs.Retimings.{unlagged, lag_at};
 ghost use Rattle.bench.specs.Moves.{is_lag, natural, new_lag, new_record, moved, moved_lag, lags_fault, made_fault, slow_fault, lag_fault, is_shift, ranks, settle_fault};
 ghost use Rattle.bench.specs.First.{first};
@@ -13,6 +12,7 @@ ghost use Rattle.bench.specs.Verdicts.{C1Holds, C2Holds};
 use crate::bench::Bench;
 use crate::order::Order;
 use crate::retiming::{MAX_FACTOR, MAX_LAG, NodeRecord, Retiming};
+use std::array;
 use words::faults::{BenchQuestion, Fault, Question};
 use words::graph::MAX_NODES;
 
@@ -142,16 +142,12 @@ impl Bench {
 impl Order {
     /// The rank of each node, where all are listed.
     fn ranks_by_node(&self) -> [i32; MAX_NODES]
-        requires kept { Kept self.now }
-        requires whole { (i : ℕ) → i < self.now.count → has (listed self.now) i ≡ true }
+        requires few { length self.now ≤ 32 }
+        requires whole { (i : ℕ) → i < length self.now → has self.now i ≡ true }
         ensures table { length result ≡ 32 }
-        ensures ranks { take self.now.count result ≡ map (λ i. pos (place_in (listed self.now) i)) (range_with_len 0 self.now.count) }
+        ensures ranks { take (length self.now) result ≡ map (λ i. pos (place_in self.now i)) (range_with_len 0 (length self.now)) }
     {
-        let mut ranks = [0; MAX_NODES];
-        for node in 0..self.count {
-            ranks[node] = self.ranks[node].unwrap_or(0) as i32;
-        }
-        ranks
+        array::from_fn(|node| i32::from(self.rank_of(node).unwrap_or(0)))
     }
 }
 

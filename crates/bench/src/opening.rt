@@ -5,78 +5,67 @@ ghost use Rattle.bench.specs.Buffers.{overlaid};
 ghost use Rattle.bench.specs.First.{first};
 ghost use Rattle.bench.specs.Firing.{has, next};
 ghost use Rattle.bench.specs.Opening.{Opened};
-ghost use Rattle.bench.specs.Orders.{Kept, listed};
-ghost use Rattle.bench.specs.Retimings.{Sound, waits, at_rest};
+ghost use Rattle.bench.specs.Retimings.{waits, at_rest};
 ghost use Rattle.bench.specs.Walks.{Closed};
 
 use crate::bench::Bench;
+use crate::firing::Retimed;
 use crate::order::Order;
 use crate::retiming::{NodeRecord, Retiming};
 use words::design::Design;
 use words::faults::{DesignQuestion, Fault, Question};
 use words::graph::MAX_NODES;
 
-impl Retiming {
-    /// K is 1 and no node lags.
-    pub(crate) fn at_rest() -> Retiming
-        ensures { result ≡ at_rest }
-    {
-        Retiming {
-            factor: 1,
-            records: [NodeRecord { lag: 0 }; MAX_NODES],
-        }
-    }
-}
-
 impl Order {
-    /// The lowest node that is not listed.
-    fn unlisted(&self, design: &Design) -> Option<usize>
-        requires { Kept self.now }
-        ensures { result ≡ first (λ i. (if has (listed self.now) i then None else Some i)) design.now.graph.count }
+    /// The lowest of so many nodes that is not listed.
+    fn unlisted(&self, count: usize) -> Option<usize>
+        ensures { result ≡ first (λ i. (if has self.now i then None else Some i)) count }
     {
-        for node in 0..design.count() {
-            if self.ranks[node].is_none() {
-                return Some(node);
-            }
-        }
-        None
-    }
-
-    /// From an unlisted node on to the one that holds it, and on, until one is met twice: the path, and that node.
-    fn walk(&self, design: &Design, retiming: &Retiming, start: usize) -> (Order, usize)
-        requires kept { Kept self.now }
-        requires sound { Sound design.now.graph retiming.now }
-        requires stuck { next design.now.graph.count (waits design.now.graph retiming.now) (listed self.now) ≡ None }
-        requires start { start < design.now.graph.count }
-        requires unlisted { has (listed self.now) start ≡ false }
-        ensures kept { Kept result.0 }
-        ensures closed { Closed design.now.graph.count (waits design.now.graph retiming.now) (listed result.0) result.1 }
-    {
-        let mut path = Order::empty();
-        let mut node = start;
-        while path.ranks[node].is_none() {
-            path.list(node);
-            let Some(holder) = self.held_by(design, retiming, node) else {
-                break;
-            };
-            node = holder;
-        }
-        (path, node)
+        (0..count).find(|&node| self.rank_of(node).is_none())
     }
 
     /// Copies the nodes from a rank on to a buffer's front; how many there are.
     fn copy_from(&self, rank: usize, buffer: &mut [u8]) -> usize
-        requires kept { Kept self.now }
-        requires rank { rank < self.now.count }
-        requires room { self.now.count ≤ length buffer.old }
-        ensures count { result ≡ length (drop rank (listed self.now)) }
-        ensures buffer { buffer.new ≡ overlaid buffer.old 0 (drop rank (listed self.now)) }
+        requires rank { rank < length self.now }
+        requires room { length self.now ≤ length buffer.old }
+        ensures count { result ≡ length (drop rank self.now) }
+        ensures buffer { buffer.new ≡ overlaid buffer.old 0 (drop rank self.now) }
     {
-        let count = self.count - rank;
-        for place in 0..count {
-            buffer[place] = self.nodes[rank + place];
+        let nodes = &self.nodes()[rank..];
+        buffer[..nodes.len()].copy_from_slice(nodes);
+        nodes.len()
+    }
+}
+
+impl<'a> Retimed<'a> {
+    /// A design at rest: K is 1 and no node lags.
+    pub(crate) fn at_rest(design: &'a Design) -> Retimed<'a>
+        ensures design { result.design.now ≡ design.now }
+        ensures retiming { result.retiming ≡ at_rest }
+    {
+        Retimed {
+            design,
+            retiming: Retiming {
+                factor: 1,
+                records: [NodeRecord { lag: 0 }; MAX_NODES],
+            },
         }
-        count
+    }
+
+    /// From an unlisted node on to the one that holds it, and on, until one is met twice: the path, and that node.
+    fn walk(&self, order: &Order, start: usize) -> (Order, usize)
+        requires stuck { next self.now.design.now.graph.count (waits self.now.design.now.graph self.now.retiming) order.now ≡ None }
+        requires start { start < self.now.design.now.graph.count }
+        requires unlisted { has order.now start ≡ false }
+        ensures { Closed self.now.design.now.graph.count (waits self.now.design.now.graph self.now.retiming) result.0 result.1 }
+    {
+        let mut path = Order::empty();
+        let mut node = start;
+        while path.rank_of(node).is_none() {
+            path.list(node);
+            node = self.held_by(order, node).unwrap();
+        }
+        (path, node)
     }
 }
 
@@ -88,16 +77,16 @@ impl Bench {
         if cycle.len() < design.count() {
             return Err(DesignQuestion::CycleBuffer.refused(cycle.len(), design.count()));
         }
-        let retiming = Retiming::at_rest();
-        let order = Order::firing(design, &retiming);
-        let Some(start) = order.unlisted(design) else {
+        let at_rest = Retimed::at_rest(design);
+        let order = at_rest.firing();
+        let Some(start) = order.unlisted(design.count()) else {
             return Ok(Bench {
                 design: *design,
-                retiming,
+                retiming: at_rest.retiming,
             });
         };
-        let (path, node) = order.walk(design, &retiming, start);
-        let rank = path.ranks[node].unwrap_or(0);
-        Err(DesignQuestion::WellDefined.refused(path.copy_from(rank as usize, cycle), 0))
+        let (path, node) = at_rest.walk(&order, start);
+        let rank = path.rank_of(node).unwrap();
+        Err(DesignQuestion::WellDefined.refused(path.copy_from(usize::from(rank), cycle), 0))
     }
 }

@@ -4,7 +4,6 @@
 use anyhow::Context;
 use bench::bench::Bench;
 use bench::program::MAX_PROGRAM_WORDS;
-use bench::verdict::Verdict;
 use cases::designs::parse_design;
 use cases::lines::print_cases;
 use cases::moves::Move;
@@ -54,19 +53,14 @@ fn print_delays(rt: &impl Print, bench: &Bench) -> io::Result<()> {
 /// Prints the nodes in firing order, then each node's rank.
 fn print_order(rt: &impl Print, bench: &Bench) -> io::Result<()> {
     let order = bench.order();
-    print_row(rt, "order", order.nodes.iter().take(order.count))?;
-    print_row(rt, "ranks", order.ranks.iter().flatten())
+    print_row(rt, "order", order.nodes().iter())?;
+    print_row(rt, "ranks", (0..ASKED).filter_map(|node| order.rank_of(node)))
 }
 
 fn print_verdict(rt: &impl Print, bench: &Bench) -> io::Result<()> {
     match bench.verdict() {
-        Verdict::Systolic => println!(rt; "systolic"),
-        Verdict::C1 { node, source } => println!(rt; "C1 {node} {source}"),
-        Verdict::C2 {
-            source,
-            smaller,
-            larger,
-        } => println!(rt; "C2 {source} {smaller} {larger}"),
+        Ok(()) => println!(rt; "systolic"),
+        Err(breach) => println!(rt; "{breach}"),
     }
 }
 

@@ -1,5 +1,5 @@
 -- What the definitions compute on the worked designs.
-use Rattle.std.proofs.Common.{◌≡◌, ℕ, ◌<◌, true, [], ◌∷◌, get_or, pos, is_some, Some, None, sym, refl, ◌∙◌, subst, arith}
+use Rattle.std.proofs.Common.{◌≡◌, ℕ, ◌<◌, true, [], ◌∷◌, get_or, pos, is_some, Some, None, Ok, sym, refl, ◌∙◌, subst, arith}
 use Rattle.words.specs.Encoding.{encoded, node_words, feed_words}
 use Rattle.words.specs.Questions.{refused, refused_from, asked, count_of, nodes_in, in_node, after_output, least_source}
 use Rattle.words.specs.Kinds.{kind_numbered}
@@ -11,7 +11,6 @@ use Rattle.bench.specs.Retimings.{at_rest, lag_at, latency, current_delay}
 use Rattle.bench.specs.Cycles.{Cycle, AllZero, link}
 use Rattle.bench.specs.Refusals.{delay_out, too_slow}
 use Rattle.bench.specs.Verdicts.{verdict}
-use Rattle.bench.specs.declared.verdict.Verdict.TheVariants.{Systolic}
 use Rattle.channels.specs.Examples.{design_e, words_of_e, program_of_e, loop, words_of_loop, fir, words_of_fir}
 use Rattle.channels.specs.Worked.{settled_e, lagged_fir}
 
@@ -35,7 +34,7 @@ pub e_lags : (lag_at settled_e 0 ≡ 1) × (lag_at settled_e 1 ≡ 0)
 unfolding moved first has place_in listed_after
 e_lags = (refl, refl)
 
-pub e_systolic : verdict design_e settled_e ≡ Systolic
+pub e_systolic : verdict design_e settled_e ≡ Ok tt
 unfolding moved first has place_in listed_after
 e_systolic = refl
 

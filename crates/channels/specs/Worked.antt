@@ -1,5 +1,5 @@
 -- The worked results, by the definitions that the calls' contracts cite.
-use Rattle.std.specs.Prelude.{◌≡◌, ℕ, ◌<◌, ◌≤◌, List, [], ◌∷◌, length, get_or, ℤ, pos, ◌+ℤ◌, ◌*ℤ◌, Some, None, Err, Result, slice_index_or}
+use Rattle.std.specs.Prelude.{◌≡◌, ℕ, ◌<◌, ◌≤◌, List, [], ◌∷◌, length, get_or, ℤ, pos, ◌+ℤ◌, ◌*ℤ◌, Some, None, Ok, Err, Result, slice_index_or}
 use Rattle.std.specs.Int.{int_wrap, w32}
 use Rattle.words.specs.declared.faults.Fault.{Fault}
 use Rattle.words.specs.declared.design.Design.{Design}
@@ -8,7 +8,6 @@ use Rattle.words.specs.Encoding.{encoded}
 use Rattle.words.specs.Questions.{refused}
 use Rattle.bench.specs.declared.bench.Bench.{Bench}
 use Rattle.bench.specs.declared.retiming.Retiming.{Retiming}
-use Rattle.bench.specs.declared.verdict.Verdict.TheVariants.{Systolic}
 use Rattle.bench.specs.Cycles.{Cycle, AllZero}
 use Rattle.bench.specs.Moves.{lag_fault, slow_fault, settle_fault, moved, ranks}
 use Rattle.bench.specs.Opening.{Opened}
@@ -65,7 +64,7 @@ pub record Worked : Type 0 where
   pub e_factor : settled_e.factor ≡ 2
   pub e_lags : (lag_at settled_e 0 ≡ 1) × (lag_at settled_e 1 ≡ 0)
   pub e_latency : latency design_e settled_e ≡ 1
-  pub e_systolic : verdict design_e settled_e ≡ Systolic
+  pub e_systolic : verdict design_e settled_e ≡ Ok tt
   -- and its program is these words
   pub e_program : program design_e settled_e ≡ program_of_e
   -- its array, from rests of 0, on 1, 5, 1, 0, 1, 0, 0 puts out 0, 3, 15, 9, 30, 21, 60

@@ -50,7 +50,7 @@ impl Plan {
     {
         let order = bench.source_order();
         let mut cells = ArrayVec::new();
-        for node in &order.nodes[..order.count] {
+        for node in order.nodes() {
             cells.push(Cell::of(bench.design(), usize::from(*node)));
         }
         Plan { cells }

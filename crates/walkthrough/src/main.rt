@@ -3,7 +3,7 @@
 
 use bench::bench::Bench;
 use bench::rewriting::rewrite;
-use bench::verdict::Verdict;
+use bench::verdict::Breach;
 use bench::writer::write_design;
 use examples::designs::DESIGN_E;
 use std::{fmt, io};
@@ -123,17 +123,19 @@ fn print_node(rt: &impl Print, bench: &Bench, node: usize, lag: u16) -> io::Resu
     println!(rt; "")
 }
 
-fn print_verdict(rt: &impl Print, verdict: Verdict) -> io::Result<()> {
+fn print_verdict(rt: &impl Print, verdict: Result<(), Breach>) -> io::Result<()> {
     match verdict {
-        Verdict::Systolic => println!(rt; "  systolic"),
-        Verdict::C1 { node, source } => {
+        Ok(()) => println!(rt; "  systolic"),
+        Err(Breach::C1 { node, source }) => {
             println!(rt; "  not systolic: v{node} hears v{source} at delay 0")
         }
-        Verdict::C2 {
-            source,
-            smaller,
-            larger,
-        } => println!(rt;
+        Err(
+            Breach::C2 {
+                source,
+                smaller,
+                larger,
+            },
+        ) => println!(rt;
             "  not systolic: v{smaller} and v{larger} hear source {source} at one delay"
         ),
     }
@@ -154,7 +156,7 @@ fn print_bench(rt: &impl Print, bench: &Bench) -> io::Result<()> {
 fn print_order(rt: &impl Print, bench: &Bench) -> io::Result<()> {
     let order = bench.order();
     print!(rt; "  firing order")?;
-    for node in order.nodes.iter().take(order.count) {
+    for node in order.nodes() {
         print!(rt; " v{node}")?;
     }
     println!(rt; "")

@@ -4,7 +4,7 @@ use crate::buffers::shorter_buffers_stay;
 use crate::reading::too_short;
 use bench::bench::Bench;
 use bench::calls::{Call, Row};
-use bench::verdict::Verdict;
+use bench::verdict::Breach;
 use examples::designs::{DESIGN_E, FIR};
 use std::test::Fail;
 use words::faults::{BenchQuestion, DesignQuestion, Fault, MachineQuestion, Question};
@@ -29,17 +29,10 @@ pub(crate) fn by_machine(question: MachineQuestion, place: usize, other: usize) 
     Some(question.refused(place, other))
 }
 
-fn is_systolic(bench: &Bench) -> bool {
-    match bench.verdict() {
-        Verdict::Systolic => true,
-        _ => false,
-    }
-}
-
 #[test]
 fn design_e_settles(rt: HostRuntime) -> Result<(), Fail> {
     let mut bench = opened(&DESIGN_E)?;
-    assert!(rt; !is_systolic(&bench));
+    assert_eq!(rt; bench.verdict(), Err(Breach::C1 { node: 0, source: 1 }));
     bench.settle()?;
     assert!(rt; bench.timing() == (2, 1));
     assert_eq!(rt; bench.lag_of(0), Some(1));
@@ -50,7 +43,7 @@ fn design_e_settles(rt: HostRuntime) -> Result<(), Fail> {
     assert_eq!(rt; bench.delay(0, 32), None);
     assert_eq!(rt; bench.delay(1, 32), Some(0));
     assert_eq!(rt; bench.output_delay(), 0);
-    assert!(rt; is_systolic(&bench));
+    assert_eq!(rt; bench.verdict(), Ok(()));
     Ok(())
 }
 
@@ -182,7 +175,7 @@ fn an_fir_filter_lagged(rt: HostRuntime) -> Result<(), Fail> {
     assert_eq!(rt; bench.delay(2, 32), Some(2));
     assert_eq!(rt; bench.delay(3, 32), Some(0));
     assert!(rt; bench.timing() == (1, 3));
-    assert!(rt; is_systolic(&bench));
+    assert_eq!(rt; bench.verdict(), Ok(()));
     Ok(())
 }
 

@@ -1,11 +1,10 @@
-use Rattle.std.proofs.Common.{◌≡◌, ◌-◌, ◌≤◌, length, get_or, take, pos, negsuc, ◌≤ℤ◌, is_ok, Some, None, Ok, Option, sym, ap, ◌∙◌, subst, ap₂, arith}
+use Rattle.std.proofs.Common.{◌≡◌, ℕ, ◌-◌, ◌≤◌, List, length, get_or, take, pos, negsuc, ◌≤ℤ◌, is_ok, Some, None, Ok, Option, sym, ap, ◌∙◌, subst, ap₂, arith}
 use Rattle.std.proofs.lemmas.Bool.{false≢true}
 use Rattle.words.specs.declared.design.Design.{Design}
 use Rattle.words.specs.declared.faults.Fault.{Fault}
 use Rattle.words.specs.declared.graph.Graph.{Graph}
 use Rattle.words.specs.Designs.{max_nodes}
 use Rattle.words.proofs.Ranges.{ranges}
-use Rattle.bench.specs.declared.order.Order.{Order}
 use Rattle.bench.specs.declared.retiming.Retiming.{Retiming}
 use Rattle.bench.specs.Moves.{moved, made_fault, settle_fault, ranks}
 use Rattle.bench.specs.Refusals.{unless, unless_kept}
@@ -29,19 +28,24 @@ module _ (g : Graph) (few : g.count ≤ max_nodes) (p : Retiming) (s : Sound g p
           (subst (λ m. C1Holds g m) (sym e) (settled_c1 g few p s fires sm), subst (λ m. C2Holds g m) (sym e) (settled_c2 g few p s fires sm))
       by (Some f) ok e = absurd (false≢true (ap is_ok ok))
 
+pub ranks_by_node-ranks-requires : goal.ranks_by_node-ranks-requires
+ranks_by_node-ranks-requires c =
+    let fires = c.order.ensures.fires in
+    record { few = omega (arith, fires.whole, (ranges c.args.self.now.design.graph c.args.self.now.design.sound).few); whole = λ i l. fires.every i (omega (arith, fires.whole)) }
+
 pub make_move-requires : goal.make_move-requires
 make_move-requires c =
     let g : Graph = c.args.self.now.design.graph in
     let p : Retiming = c.args.self.now.retiming in
     let r = ranges g c.args.self.now.design.sound in
-    let o : Order = c.order.result in
-    let fit = ranks_fit g r.few p o c.order.ensures.kept c.order.ensures.listed c.order.ensures.fires in
+    let o : List ℕ = c.order.result in
+    let fit = ranks_fit g r.few p o c.order.ensures.listed c.order.ensures.fires in
     let row : take (c.count-count.result - 0) c.ranks_by_node-ranks.result ≡ ranks g p =
-    ranks_row g r.few p o c.order.ensures.kept c.order.ensures.listed c.order.ensures.fires
+    ranks_row g r.few p o c.order.ensures.listed c.order.ensures.fires
     c.ranks_by_node-ranks.result c.count-count.result c.count-count.ensures c.ranks_by_node-ranks.ensures.ranks in
     record {
       factor = (omega (arith, r.some, c.count-count.ensures), omega (arith, r.few, c.count-count.ensures));
-      few = omega (arith, ap length row, ranks_long g r.few p o c.order.ensures.kept c.order.ensures.listed c.order.ensures.fires);
+      few = omega (arith, ap length row, ranks_long g r.few p o c.order.ensures.listed c.order.ensures.fires);
       shifts = (
         λ i. subst (λ l. negsuc 4094 ≤ℤ get_or l i (pos 0)) (sym row) (fit i).0,
         λ i. subst (λ l. get_or l i (pos 0) ≤ℤ pos 4095) (sym row) (fit i).1,
@@ -54,7 +58,7 @@ returns c =
     let g : Graph = c.args.self.now.design.graph in
     let p : Retiming = c.args.self.now.retiming in
     let row' =
-    ranks_row g (ranges g c.args.self.now.design.sound).few p c.order.result c.order.ensures.kept c.order.ensures.listed c.order.ensures.fires
+    ranks_row g (ranges g c.args.self.now.design.sound).few p c.order.result c.order.ensures.listed c.order.ensures.fires
     c.ranks_by_node-ranks.result c.count-count.result c.count-count.ensures c.ranks_by_node-ranks.ensures.ranks in
     let few = (ranges g c.args.self.now.design.sound).few in
     let s = sound g p c.args.self.now.sound in

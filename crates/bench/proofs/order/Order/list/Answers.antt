@@ -1,11 +1,5 @@
-use Rattle.std.proofs.Common.{refl}
-use Rattle.bench.proofs.Ordered.{kept_grown, listed_grown}
+use Rattle.bench.proofs.Listed.{kept_grown}
 use Rattle.bench.proofs.order.Order.list.Goals as goal
 
-pub returns : goal.returns
-returns c =
-    record {
-      kept = kept_grown c.args.self.now c.requires.kept c.requires.room c.args.node c.requires.node c.requires.new;
-      listed = listed_grown c.args.self.now c.requires.kept c.requires.room c.args.node c.requires.node c.requires.new;
-      count = refl;
-    }
+pub invariant_of-self : goal.invariant_of-self
+invariant_of-self c = kept_grown c.self.inside.nodes c.self.inside.count c.self.invariant (rw c.self.view_is c.requires.room) c.args.node
