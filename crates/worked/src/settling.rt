@@ -1,7 +1,7 @@
 //! Design E, an FIR filter and one-node designs on the bench, and one refusal by each question of opening and moving.
 
 use bench::bench::Bench;
-use bench::calls::{Call, Row};
+use bench::calls::Call;
 use bench::verdict::Verdict;
 use examples::designs::{DESIGN_E, FIR};
 use std::test::Fail;
@@ -191,11 +191,8 @@ fn an_fir_filter_lagged(rt: HostRuntime) -> Result<(), Fail> {
 #[test]
 fn calls_in_a_list(rt: HostRuntime) -> Result<(), Fail> {
     let mut bench = opened(&DESIGN_E)?;
-    let mut shifts = [0; MAX_NODES];
-    shifts[0] = 1;
-    let row = Row { shifts, count: 2 };
     let calls = [
-        Call::Lag { row },
+        Call::Lag { shifts: &[1, 0] },
         Call::Slow { factor: 65 },
         Call::Slow { factor: 3 },
         Call::Settle,
