@@ -1,18 +1,17 @@
 -- Settling: the ranks as a row of shifts.
-use Rattle.std.proofs.Common.{◌≡◌, ℕ, ◌-◌, ◌<◌, ◌≤◌, List, map, length, get_or, take, ℤ, pos, negsuc, ◌≤ℤ◌, sym, ap, ◌∙◌, subst, ⊎_elim, arith}
+use Rattle.std.proofs.Common.{◌≡◌, ℕ, ◌-◌, ◌<◌, ◌≤◌, true, List, map, length, get_or, take, ℤ, pos, sym, ap, ◌∙◌, subst, ⊎_elim, arith}
 use Rattle.std.specs.List.{range_with_len}
 use Rattle.std.proofs.lemmas.List.FromFn.{length-map-range_with_len, get_or-map-range_with_len}
 use Rattle.std.proofs.lemmas.List.{length-take-le, get_or_past}
-use Rattle.std.proofs.lemmas.Int.{ints}
-use Rattle.std.proofs.lemmas.Bool.{cases_lt}
+use Rattle.std.proofs.lemmas.Bool.{cases_lt, le-leb}
 use Rattle.words.specs.declared.graph.Graph.{Graph}
 use Rattle.words.specs.Designs.{max_nodes}
 use Rattle.bench.specs.declared.order.Order.{Order}
 use Rattle.bench.specs.declared.retiming.Retiming.{Retiming}
 use Rattle.bench.specs.Firing.{place_in}
-use Rattle.bench.specs.Moves.{ranks}
+use Rattle.bench.specs.Moves.{is_shift, ranks}
 use Rattle.bench.specs.Orders.{Kept, listed, Fires}
-use Rattle.bench.specs.Retimings.{order}
+use Rattle.bench.specs.Retimings.{order, max_lag}
 use Rattle.bench.proofs.Lists.{place_below}
 
 module _ (g : Graph) (few : g.count ≤ max_nodes) (p : Retiming) (o : Order) (kept : Kept o) (e : listed o ≡ order g p) (fires : Fires g p (listed o)) where
@@ -28,17 +27,13 @@ module _ (g : Graph) (few : g.count ≤ max_nodes) (p : Retiming) (o : Order) (k
   low : (i : ℕ) → i < g.count → place_in (order g p) i < max_nodes
   low i l = let b = place_below (listed o) i (fires.every i l) in subst (λ l'. place_in l' i < max_nodes) e (omega (arith, fires.whole))
 
-  within : (m : ℕ) → m < max_nodes → (negsuc 4094 ≤ℤ pos m) × (pos m ≤ℤ pos 4095)
-  within m l = (omega (arith, ints), omega (arith, ints))
+  pub ranks_long : length (ranks g p) ≡ g.count
+  ranks_long = length-map-range_with_len (λ k. pos (place_in (order g p) k)) 0 g.count
 
-  pub ranks_fit : (i : ℕ) → (negsuc 4094 ≤ℤ get_or (ranks g p) i (pos 0)) × (get_or (ranks g p) i (pos 0) ≤ℤ pos 4095)
+  pub ranks_fit : (i : ℕ) → is_shift (get_or (ranks g p) i (pos 0)) ≡ true
   ranks_fit i =
       ⊎_elim
       (λ (l : i < g.count).
-      subst (λ z. (negsuc 4094 ≤ℤ z) × (z ≤ℤ pos 4095)) (sym (get_or-map-range_with_len (λ k. pos (place_in (order g p) k)) 0 g.count i i (pos 0) l (omega arith))) (within _ (low i l)))
-      (λ (l : g.count ≤ i).
-      subst (λ z. (negsuc 4094 ≤ℤ z) × (z ≤ℤ pos 4095)) (sym (get_or_past (ranks g p) i (pos 0) (omega (arith, length-map-range_with_len (λ k. pos (place_in (order g p) k)) 0 g.count)))) (within 0 (omega arith)))
+      ap is_shift (get_or-map-range_with_len (λ k. pos (place_in (order g p) k)) 0 g.count i i (pos 0) l (omega arith)) ∙ le-leb (place_in (order g p) i) max_lag (omega (arith, low i l)))
+      (λ (l : g.count ≤ i). ap is_shift (get_or_past (ranks g p) i (pos 0) (omega (arith, ranks_long))))
       (cases_lt i g.count)
-
-  pub ranks_long : length (ranks g p) ≡ g.count
-  ranks_long = length-map-range_with_len (λ k. pos (place_in (order g p) k)) 0 g.count
