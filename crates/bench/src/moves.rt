@@ -1,6 +1,6 @@
 //! Moves on a retiming: slow, lag and settle.
 
-ghost use Rattle.std.specs.Prelude.{◌≡◌, ℕ, ◌<◌, ◌≤◌, true, [], map, length, take, pos, not, ◌*◌, ◌+ℤ◌, None, Some, Ok, slice_index_or, MatchResult};
+ghost use Rattle.std.specs.Prelude.{◌≡◌, ℕ, ◌<◌, ◌≤◌, true, [], map, length, take, pos, not, ◌*◌, ◌+ℤ◌, None, Some, Ok, slice_index_or, IfOk, MatchResult};
 ghost use Rattle.bench.specs.Firing.{has, place_in};
 ghost use Rattle.bench.specs.Orders.{Kept, listed};
 ghost use Rattle.bench.specs.Retimings.{max_factor};
@@ -29,7 +29,8 @@ struct Move<'a> {
 impl<'a> Move<'a> {
     /// The move that shifts the lags: question 9.
     fn shifting(shifts: &'a [i32]) -> Result<Move<'a>, Fault>
-        ensures { MatchResult result (λ m. (shifts_fault shifts.now ≡ None) × (m.factor ≡ 1) × (m.shifts.now ≡ shifts.now)) (λ f. shifts_fault shifts.now ≡ Some f) }
+        ensures made { IfOk result (λ m. (m.factor ≡ 1) × (m.shifts.now ≡ shifts.now)) }
+        ensures asked { MatchResult result (λ m. shifts_fault shifts.now ≡ None) (λ f. shifts_fault shifts.now ≡ Some f) }
     {
         if let Some(index) = wrong_shift(shifts) {
             return Err(refusal(9, index, 0));
@@ -86,7 +87,8 @@ impl Bench {
     /// What a move makes of the retiming: questions 13 and 10.
     fn moved(&self, by: &Move<'_>) -> Result<Moved, Fault>
         requires few { length by.now.shifts.now ≤ self.now.design.graph.count }
-        ensures { MatchResult result (λ m. (m.retiming ≡ moved self.now.retiming by.now.factor by.now.shifts.now) × (made_fault self.now.design.graph self.now.retiming by.now.factor by.now.shifts.now ≡ delays_fault self.now.design.graph m.retiming)) (λ f. made_fault self.now.design.graph self.now.retiming by.now.factor by.now.shifts.now ≡ Some f) }
+        ensures made { IfOk result (λ m. m.retiming ≡ moved self.now.retiming by.now.factor by.now.shifts.now) }
+        ensures asked { MatchResult result (λ m. made_fault self.now.design.graph self.now.retiming by.now.factor by.now.shifts.now ≡ delays_fault self.now.design.graph m.retiming) (λ f. made_fault self.now.design.graph self.now.retiming by.now.factor by.now.shifts.now ≡ Some f) }
     {
         let Retiming {
             factor,

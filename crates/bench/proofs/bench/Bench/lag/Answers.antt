@@ -23,7 +23,7 @@ pub returns-in_err-shifting : goal.returns-in_err-shifting
 returns-in_err-shifting c =
     let p : Retiming = c.args.self.now.retiming in
     let f : Fault = c.in_err-shifting.field-0.0 in
-    let h = lag_shifts c.args.self.now.design.graph p c.args.shifts.now (omega (arith, c.if-shifts-count.false, c.count-count.ensures)) f c.in_err-shifting.ensures in
+    let h = lag_shifts c.args.self.now.design.graph p c.args.shifts.now (omega (arith, c.if-shifts-count.false, c.count-count.ensures)) f c.in_err-shifting.ensures.asked in
     record { answer = refused c.from_residual.result _ tt f c.from_residual.ensures.1 h; design = refl; retiming = kept _ f _ p h }
 
 pub returns : goal.returns
@@ -31,11 +31,11 @@ returns c =
     let g : Graph = c.args.self.now.design.graph in
     let p : Retiming = c.args.self.now.retiming in
     let shifts : List ℤ = c.args.shifts.now in
-    let by = c.in_ok-shifting.ensures in
-    let h = lag_made g p shifts (omega (arith, c.if-shifts-count.false, c.count-count.ensures)) by.0 (sound g p c.args.self.now.sound).slow in
-    let same = ap₂ (λ n l. made_fault g p n l) by.1 by.2 ∙ sym h in
+    let by = c.in_ok-shifting.ensures.made in
+    let h = lag_made g p shifts (omega (arith, c.if-shifts-count.false, c.count-count.ensures)) c.in_ok-shifting.ensures.asked (sound g p c.args.self.now.sound).slow in
+    let same = ap₂ (λ n l. made_fault g p n l) by.0 by.1 ∙ sym h in
     record {
       answer = c.make_move.ensures.answer ∙ ap (λ o. unless o tt) same;
       design = c.make_move.ensures.design;
-      retiming = c.make_move.ensures.retiming ∙ ap₂ (λ o q. unless_kept o q p) same (ap₂ (λ n l. moved p n l) by.1 by.2);
+      retiming = c.make_move.ensures.retiming ∙ ap₂ (λ o q. unless_kept o q p) same (ap₂ (λ n l. moved p n l) by.0 by.1);
     }

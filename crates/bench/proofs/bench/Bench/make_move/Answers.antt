@@ -15,6 +15,6 @@ invariant_of-self c =
     let factor : ℕ = c.args.by.now.factor in
     let shifts : List ℤ = c.args.by.now.shifts.now in
     let made = c.in_ok-moved.ensures in
-    let none = made.1 ∙ unless_none _ tt c.in_ok-check_delays.field-0 c.in_ok-check_delays.ensures in
+    let none = made.asked ∙ unless_none _ tt c.in_ok-check_delays.field-0 c.in_ok-check_delays.ensures in
     let s = sound_moved p factor shifts g (ranges g c.args.self.now.design.sound) (sound g p c.args.self.now.sound) c.requires.few c.args.by.now.positive none in
-    record { sound = subst (λ q. ∥ Sound g q ∥₁) (sym made.0) ∣ s ∣₁; ordered = c.args.self.now.ordered }
+    record { sound = subst (λ q. ∥ Sound g q ∥₁) (sym made.made) ∣ s ∣₁; ordered = c.args.self.now.ordered }

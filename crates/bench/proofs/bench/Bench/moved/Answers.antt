@@ -9,12 +9,12 @@ use Rattle.bench.proofs.Outcomes.{unless_err, unless_none, failed}
 use Rattle.bench.proofs.Soundness.{sound}
 use Rattle.bench.proofs.bench.Bench.moved.Goals as goal
 
-pub returns-then-factor-by-gt-MAX_FACTOR : goal.returns-then-factor-by-gt-MAX_FACTOR
-returns-then-factor-by-gt-MAX_FACTOR c =
+pub returns-then-factor-by-gt-MAX_FACTOR-clause-asked : goal.returns-then-factor-by-gt-MAX_FACTOR-clause-asked
+returns-then-factor-by-gt-MAX_FACTOR-clause-asked c =
     made_slow c.args.self.now.design.graph c.args.self.now.retiming c.args.by.now.factor c.args.by.now.shifts.now c.if-factor-by-gt-MAX_FACTOR.true ∙ ap Some (sym c.refusal.ensures)
 
-pub returns-in_err-apply : goal.returns-in_err-apply
-returns-in_err-apply c =
+pub returns-in_err-apply-clause-asked : goal.returns-in_err-apply-clause-asked
+returns-in_err-apply-clause-asked c =
     let g : Graph = c.args.self.now.design.graph in
     let p : Retiming = c.args.self.now.retiming in
     let factor : ℕ = c.args.by.now.factor in
@@ -33,4 +33,7 @@ returns c =
     let s = sound g p c.args.self.now.sound in
     let all = lags_table p factor shifts g (ranges g c.args.self.now.design.sound) s c.requires.few in
     let made = moved_by p factor shifts c.apply.new.records s.table (c.in_ok-apply.ensures.state refl) in
-    (made, made_delays g p factor shifts c.if-factor-by-gt-MAX_FACTOR.false (sym all ∙ unless_none _ tt c.in_ok-apply.field-0 c.in_ok-apply.ensures.answer) ∙ ap (delays_fault g) (sym made))
+    record {
+      made = made;
+      asked = made_delays g p factor shifts c.if-factor-by-gt-MAX_FACTOR.false (sym all ∙ unless_none _ tt c.in_ok-apply.field-0 c.in_ok-apply.ensures.answer) ∙ ap (delays_fault g) (sym made);
+    }
