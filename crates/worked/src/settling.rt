@@ -205,6 +205,15 @@ fn calls_in_a_list(rt: HostRuntime) -> Result<(), Fail> {
 }
 
 #[test]
+fn long_row_in_a_list(rt: HostRuntime) -> Result<(), Fail> {
+    let mut bench = opened(&DESIGN_E)?;
+    let calls = [Call::Lag { shifts: &[0; 33] }, Call::Settle];
+    assert_eq!(rt; bench.send(&calls), 1);
+    assert!(rt; bench.timing() == (2, 1));
+    Ok(())
+}
+
+#[test]
 fn design_e_emits(rt: HostRuntime) -> Result<(), Fail> {
     let mut bench = opened(&DESIGN_E)?;
     bench.settle()?;
