@@ -1,10 +1,11 @@
 -- What a move makes is sound where none of its questions is answered no.
-use Rattle.std.proofs.Common.{◌≡◌, ℕ, ◌+◌, ◌*◌, ◌<◌, ◌≤◌, Bool, true, false, cond, ◌&&◌, leb, List, [], map, length, get_or, ℤ, pos, negsuc, ◌+ℤ◌, ◌≤ℤ◌, is_some, Some, None, Option, sym, refl, ap, ◌∙◌, subst, ap₂, ⊎_elim, mul-pos, zero-mul, arith}
-use Rattle.std.specs.List.{range_with_len}
+use Rattle.std.proofs.Common.{◌≡◌, ℕ, ◌+◌, ◌*◌, ◌<◌, ◌≤◌, Bool, true, false, cond, not, ◌&&◌, leb, List, [], map, length, get_or, ℤ, pos, negsuc, ◌+ℤ◌, is_some, Some, None, Option, sym, refl, ap, ◌∙◌, subst, ap₂, ⊎_elim, mul-pos, zero-mul, arith}
+use Rattle.std.specs.List.{range_with_len, position, position_or_len}
+use Rattle.std.proofs.lemmas.List.Quantifiers.{position-Some}
+use Rattle.std.proofs.lemmas.List.Sums.{fails_before_first}
 use Rattle.std.proofs.lemmas.List.FromFn.{length-map-range_with_len, get_or-map-range_with_len}
 use Rattle.std.proofs.lemmas.List.{get_or_past}
-use Rattle.std.proofs.lemmas.Bool.{true≢false, false≢true, cases_lt, and_parts, and_from, leb-true, ltb-true, cond-true, cond-false, lt-leb, le-leb, eq-eqb, ne_eqb}
-use Rattle.std.proofs.lemmas.Int.{ints}
+use Rattle.std.proofs.lemmas.Bool.{true≢false, false≢true, not-true, not-false, lt-ltb, cases_lt, and_parts, leb-true, cond-true, cond-false, lt-leb, le-leb, eq-eqb, ne_eqb}
 use Rattle.words.specs.declared.faults.Fault.{Fault}
 use Rattle.words.specs.declared.graph.Graph.{Graph}
 use Rattle.words.specs.Designs.{InRange, node_at, feed_at, sources, max_nodes}
@@ -14,7 +15,7 @@ use Rattle.bench.specs.First.{or_else, first}
 use Rattle.bench.specs.Retimings.{Sound, unlagged, lag_at, source_lag, ahead, max_lag, max_delay, max_factor}
 use Rattle.bench.specs.Moves.{moved, moved_lag, new_record, natural, is_lag, lags_fault, delays_fault, node_fault, feed_fault, output_fault, move_fault, made_fault, slow_fault, is_shift, shifts_fault, lag_fault}
 use Rattle.bench.specs.Refusals.{lag_out, too_slow, wrong_factor, wrong_row, wrong_shift}
-use Rattle.bench.proofs.Searches.{or_none, none_or, first_none, first_some, first_found, first_all, first_extend}
+use Rattle.bench.proofs.Searches.{or_none, none_or, some_or, first_none, first_found, first_all, first_extend}
 use Rattle.bench.proofs.Soundness.{feed_inside}
 
 -- a test that refuses, and nothing is refused
@@ -25,6 +26,29 @@ passed false f h = absurd (true≢false (ap is_some h))
 natural_lag : (z : ℤ) → is_lag z ≡ true → natural z ≤ max_lag
 natural_lag (pos d) h = leb-true d max_lag h
 natural_lag (negsuc d) h = absurd (true≢false (sym h))
+
+-- what a move's questions come to
+module _ (g : Graph) (p : Retiming) (factor : ℕ) (shifts : List ℤ) where
+  pub made_slow : max_factor < p.factor * factor → made_fault g p factor shifts ≡ Some (too_slow p.factor factor)
+  unfolding made_fault
+  made_slow h = cond-false _ _ _ (lt-leb (p.factor * factor) max_factor h)
+
+  pub made_move : p.factor * factor ≤ max_factor → made_fault g p factor shifts ≡ move_fault g p factor shifts
+  unfolding made_fault
+  made_move h = cond-true _ _ _ (le-leb (p.factor * factor) max_factor h)
+
+  pub made_lags : p.factor * factor ≤ max_factor → (f : Fault) → lags_fault g.count (moved_lag p factor shifts) ≡ Some f → made_fault g p factor shifts ≡ Some f
+  made_lags h f e = made_move h ∙ some_or _ (delays_fault g (moved p factor shifts)) f e
+
+  pub made_delays : p.factor * factor ≤ max_factor → lags_fault g.count (moved_lag p factor shifts) ≡ None → made_fault g p factor shifts ≡ delays_fault g (moved p factor shifts)
+  made_delays h e = made_move h ∙ none_or _ (delays_fault g (moved p factor shifts)) e
+
+  made_none : made_fault g p factor shifts ≡ None → (p.factor * factor ≤ max_factor) × (move_fault g p factor shifts ≡ None)
+  made_none h =
+      ⊎_elim
+      (λ (l : max_factor < p.factor * factor). absurd (true≢false (ap is_some (sym (made_slow l) ∙ h))))
+      (λ (l : p.factor * factor ≤ max_factor). (l, sym (made_move l) ∙ h))
+      (cases_lt max_factor (p.factor * factor))
 
 module _ (p : Retiming) (factor : ℕ) (shifts : List ℤ) where
   -- the lags that a move makes
@@ -38,20 +62,25 @@ module _ (p : Retiming) (factor : ℕ) (shifts : List ℤ) where
       ap (λ (r : NodeRecord). r.lag) (get_or_past (map (new_record p.records factor shifts) (range_with_len 0 max_nodes)) i unlagged (omega (arith, length-map-range_with_len (new_record p.records factor shifts) 0 max_nodes)))
 
   -- a node with no lag and no shift stays
-  pub lag_rest : (i : ℕ) → lag_at p i ≡ 0 → length shifts ≤ i → moved_lag p factor shifts i ≡ pos 0
+  lag_rest : (i : ℕ) → lag_at p i ≡ 0 → length shifts ≤ i → moved_lag p factor shifts i ≡ pos 0
   lag_rest i none past =
       ap₂ (λ d s. pos (d * factor) +ℤ s) none (get_or_past shifts i (pos 0) past) ∙ ap pos (omega (arith, zero-mul factor))
 
   module _ (g : Graph) (r : InRange g) (s : Sound g p) (few : length shifts ≤ g.count) where
     -- what stands past the nodes is never refused
-    pub lags_past : lags_fault max_nodes (moved_lag p factor shifts) ≡ lags_fault g.count (moved_lag p factor shifts)
+    lags_past : lags_fault max_nodes (moved_lag p factor shifts) ≡ lags_fault g.count (moved_lag p factor shifts)
     lags_past =
         first_extend (λ i. cond (is_lag (moved_lag p factor shifts i)) None (Some (lag_out i))) g.count max_nodes r.few
         (λ i low high. cond-true _ _ _ (ap is_lag (lag_rest i (s.rest i low) (omega arith))))
 
-    pub sound_moved : 1 ≤ factor → p.factor * factor ≤ max_factor → move_fault g p factor shifts ≡ None → Sound g (moved p factor shifts)
+    pub lags_table : lags_fault (length p.records) (moved_lag p factor shifts) ≡ lags_fault g.count (moved_lag p factor shifts)
+    lags_table = ap (λ n. lags_fault n (moved_lag p factor shifts)) s.table ∙ lags_past
+
+    pub sound_moved : 1 ≤ factor → made_fault g p factor shifts ≡ None → Sound g (moved p factor shifts)
     unfolding moved delays_fault
-    sound_moved some slow none =
+    sound_moved some accepted =
+        let slow = (made_none g p factor shifts accepted).0 in
+        let none = (made_none g p factor shifts accepted).1 in
         let parts = or_none (lags_fault g.count (moved_lag p factor shifts)) (delays_fault g (moved p factor shifts)) none in
         let q : Retiming = moved p factor shifts in
         let more = or_none (first (λ i. node_fault q i (node_at g i)) g.count) (output_fault g q) parts.1 in
@@ -82,52 +111,6 @@ module _ (p : Retiming) (factor : ℕ) (shifts : List ℤ) where
           output = leb-true _ _ (passed _ _ more.1);
         }
 
--- A search for a place, and one for what is named there: they find the same.
-renamed_none : (b : Bool) (k : ℕ) (f : Fault) → ◌≡◌ {A = Option ℕ} (cond b None (Some k)) None → ◌≡◌ {A = Option Fault} (cond b None (Some f)) None
-renamed_none true k f q = refl
-renamed_none false k f q = absurd (true≢false (ap is_some q))
-
-renamed_some : (b : Bool) (i k : ℕ) (name : ℕ → Fault) → ◌≡◌ {A = Option ℕ} (cond b None (Some i)) (Some k) → ◌≡◌ {A = Option Fault} (cond b None (Some (name i))) (Some (name k))
-renamed_some true i k name q = absurd (false≢true (ap is_some q))
-renamed_some false i k name q = ap (λ m. Some (name m)) (some_same q)
-  where
-    some_same : ◌≡◌ {A = Option ℕ} (Some i) (Some k) → i ≡ k
-    some_same e = cc
-
-first_renamed_none : (out : ℕ → Option ℕ) (named : ℕ → Option Fault) (n : ℕ) → ((i : ℕ) → out i ≡ None → named i ≡ None) → first out n ≡ None → first named n ≡ None
-first_renamed_none out named n same h = first_all named n (λ i l. same i (first_none out n i h l))
-
-first_renamed_some : (out : ℕ → Option ℕ) (named : ℕ → Option Fault) (n k : ℕ) (f : Fault) → ((i : ℕ) → out i ≡ None → named i ≡ None) → ((i : ℕ) → out i ≡ Some k → named i ≡ Some f) →
-    first out n ≡ Some k → first named n ≡ Some f
-first_renamed_some out named n k f same found h =
-    let r = first_some out n k h in first_found named n r.0 f r.1 (first_renamed_none out named r.0 same r.3) (found r.0 r.2)
-
--- the lowest node whose lag leaves its range is what question 10 names
-module _ (n : ℕ) (lags : ℕ → ℤ) where
-  lag_out_at : ℕ → Option ℕ
-  lag_out_at i = cond (is_lag (lags i)) None (Some i)
-
-  lag_named : ℕ → Option Fault
-  lag_named i = cond (is_lag (lags i)) None (Some (lag_out i))
-
-  pub lags_none : first (λ i. cond (is_lag (lags i)) None (Some i)) n ≡ None → lags_fault n lags ≡ None
-  unfolding lag_out_at lag_named
-  lags_none h = first_renamed_none lag_out_at lag_named n (λ i q. renamed_none _ i (lag_out i) q) h
-
-  pub lags_some : (k : ℕ) → first (λ i. cond (is_lag (lags i)) None (Some i)) n ≡ Some k → lags_fault n lags ≡ Some (lag_out k)
-  unfolding lag_out_at lag_named
-  lags_some k h = first_renamed_some lag_out_at lag_named n k (lag_out k) (λ i q. renamed_none _ i (lag_out i) q) (λ i q. renamed_some _ i k lag_out q) h
-
--- what a move's questions come to
-module _ (g : Graph) (p : Retiming) (factor : ℕ) (shifts : List ℤ) where
-  pub made_slow : max_factor < p.factor * factor → made_fault g p factor shifts ≡ Some (too_slow p.factor factor)
-  unfolding made_fault
-  made_slow h = cond-false _ _ _ (lt-leb (p.factor * factor) max_factor h)
-
-  pub made_move : p.factor * factor ≤ max_factor → made_fault g p factor shifts ≡ move_fault g p factor shifts
-  unfolding made_fault
-  made_move h = cond-true _ _ _ (le-leb (p.factor * factor) max_factor h)
-
 -- the retiming that the code makes
 pub moved_by : (p : Retiming) (factor : ℕ) (shifts : List ℤ) (records : List NodeRecord) → length p.records ≡ max_nodes →
     records ≡ map (new_record p.records factor shifts) (range_with_len 0 (length p.records)) → ◌≡◌ {A = Retiming} (record { factor = p.factor * factor; records = records }) (moved p factor shifts)
@@ -135,18 +118,14 @@ unfolding moved
 moved_by p factor shifts records long e =
     ap (λ rs. record { factor = p.factor * factor; records = rs }) (e ∙ ap (λ n. map (new_record p.records factor shifts) (range_with_len 0 n)) long)
 
-pub factor_moved : (p : Retiming) (factor : ℕ) (shifts : List ℤ) → (moved p factor shifts).factor ≡ p.factor * factor
-unfolding moved
-factor_moved p factor shifts = refl
-
 module _ (g : Graph) (p : Retiming) (factor : ℕ) where
   pub slow_wrong : (leb 1 factor && leb factor max_factor) ≡ false → slow_fault g p factor ≡ Some (wrong_factor factor)
   unfolding slow_fault
   slow_wrong h = cond-false _ _ _ h
 
-  pub slow_made : 1 ≤ factor → factor ≤ max_factor → slow_fault g p factor ≡ made_fault g p factor []
+  pub slow_made : (leb 1 factor && leb factor max_factor) ≡ true → slow_fault g p factor ≡ made_fault g p factor []
   unfolding slow_fault
-  slow_made low high = cond-true _ _ _ (and_from _ _ (le-leb 1 factor low) (le-leb factor max_factor high))
+  slow_made h = cond-true _ _ _ h
 
 -- a row that passes questions 8 and 9
 module _ (g : Graph) (p : Retiming) (shifts : List ℤ) where
@@ -154,38 +133,43 @@ module _ (g : Graph) (p : Retiming) (shifts : List ℤ) where
   unfolding lag_fault
   lag_row ne = cond-false _ _ _ (ne_eqb (length shifts) g.count ne)
 
-  pub lag_shifts : length shifts ≡ g.count → lag_fault g p shifts ≡ or_else (shifts_fault shifts) (move_fault g p 1 shifts)
+  asks_shifts : length shifts ≡ g.count → lag_fault g p shifts ≡ or_else (shifts_fault shifts) (move_fault g p 1 shifts)
   unfolding lag_fault
-  lag_shifts e = cond-true _ _ _ (eq-eqb (length shifts) g.count e)
+  asks_shifts e = cond-true _ _ _ (eq-eqb (length shifts) g.count e)
+
+  pub lag_shifts : length shifts ≡ g.count → (f : Fault) → shifts_fault shifts ≡ Some f → lag_fault g p shifts ≡ Some f
+  lag_shifts e f h = asks_shifts e ∙ some_or (shifts_fault shifts) (move_fault g p 1 shifts) f h
 
   pub lag_made : length shifts ≡ g.count → shifts_fault shifts ≡ None → p.factor ≤ max_factor → lag_fault g p shifts ≡ made_fault g p 1 shifts
   lag_made e none slow =
-      lag_shifts e ∙ none_or (shifts_fault shifts) (move_fault g p 1 shifts) none ∙ sym (made_move g p 1 shifts (omega arith))
+      asks_shifts e ∙ none_or (shifts_fault shifts) (move_fault g p 1 shifts) none ∙ sym (made_move g p 1 shifts (omega arith))
 
 -- the lowest shift out of range is what question 9 names
 module _ (shifts : List ℤ) where
-  shift_out : ℕ → Option ℕ
-  shift_out i = cond (is_shift (get_or shifts i (pos 0))) None (Some i)
-
   shift_named : ℕ → Option Fault
   shift_named i = cond (is_shift (get_or shifts i (pos 0))) None (Some (wrong_shift i))
 
-  pub shifts_none : first (λ i. cond (is_shift (get_or shifts i (pos 0))) None (Some i)) (length shifts) ≡ None → shifts_fault shifts ≡ None
-  unfolding shift_out shift_named
-  shifts_none h = first_renamed_none shift_out shift_named (length shifts) (λ i q. renamed_none _ i (wrong_shift i) q) h
-
-  pub shifts_some : (k : ℕ) → first (λ i. cond (is_shift (get_or shifts i (pos 0))) None (Some i)) (length shifts) ≡ Some k → shifts_fault shifts ≡ Some (wrong_shift k)
-  unfolding shift_out shift_named
-  shifts_some k h = first_renamed_some shift_out shift_named (length shifts) k (wrong_shift k) (λ i q. renamed_none _ i (wrong_shift i) q) (λ i q. renamed_some _ i k wrong_shift q) h
-
-  pub shifts_fit : shifts_fault shifts ≡ None → (i : ℕ) → (negsuc 4094 ≤ℤ get_or shifts i (pos 0)) × (get_or shifts i (pos 0) ≤ℤ pos 4095)
+  pub shifts_some : (k : ℕ) → Some k ≡ position (λ s. not (is_shift s)) shifts → shifts_fault shifts ≡ Some (wrong_shift k)
   unfolding shift_named
+  shifts_some k h =
+      let at = position-Some (λ s. not (is_shift s)) shifts k (pos 0) (sym h) in
+      first_found shift_named (length shifts) k (wrong_shift k) at.0 (first_all shift_named k (λ i l. cond-true _ _ _ (not-false _ (at.2 i l)))) (cond-false _ _ _ (not-true _ at.1))
+
+  -- and where none is, each is in range; none is given past the row
+  pub shifts_fit : None ≡ position (λ s. not (is_shift s)) shifts → (i : ℕ) → is_shift (get_or shifts i (pos 0)) ≡ true
   shifts_fit h i =
       ⊎_elim
-      (λ (l : i < length shifts). in_range (get_or shifts i (pos 0)) (passed _ _ (first_none shift_named (length shifts) i h l)))
-      (λ (l : length shifts ≤ i). in_range (get_or shifts i (pos 0)) (ap is_shift (get_or_past shifts i (pos 0) l)))
+      (λ (l : i < length shifts). not-false _ (fails_before_first (λ s. not (is_shift s)) shifts i (pos 0) (omega (arith, past))))
+      (λ (l : length shifts ≤ i). ap is_shift (get_or_past shifts i (pos 0) l))
       (cases_lt i (length shifts))
     where
-      in_range : (z : ℤ) → is_shift z ≡ true → (negsuc 4094 ≤ℤ z) × (z ≤ℤ pos 4095)
-      in_range (pos d) q = let b = leb-true d max_lag q in (omega (arith, ints), omega (arith, ints))
-      in_range (negsuc d) q = let b = ltb-true d max_lag q in (omega (arith, ints), omega (arith, ints))
+      past : length shifts ≤ position_or_len (λ s. not (is_shift s)) shifts
+      past =
+          ⊎_elim
+          (λ (l : position_or_len (λ s. not (is_shift s)) shifts < length shifts). absurd (false≢true (ap is_some (h ∙ cond-true _ _ _ (lt-ltb _ _ l)))))
+          (λ (l : length shifts ≤ position_or_len (λ s. not (is_shift s)) shifts). l)
+          (cases_lt (position_or_len (λ s. not (is_shift s)) shifts) (length shifts))
+
+  pub shifts_none : ((i : ℕ) → is_shift (get_or shifts i (pos 0)) ≡ true) → shifts_fault shifts ≡ None
+  unfolding shift_named
+  shifts_none fits = first_all shift_named (length shifts) (λ i l. cond-true _ _ _ (fits i))

@@ -1,8 +1,8 @@
 -- The steps of a move.
-use Rattle.std.proofs.Common.{◌≡◌, ℕ, ◌+◌, ◌<◌, ◌≤◌, List, [], ◌∷◌, ◌++◌, map, length, get_or, drop, set, ℤ, sym, ap, ◌∙◌, ap₂, append_assoc, arith}
+use Rattle.std.proofs.Common.{◌≡◌, ℕ, ◌+◌, ◌<◌, List, [], ◌∷◌, ◌++◌, map, length, get_or, drop, set, ℤ, sym, ap, ◌∙◌, ap₂, append_assoc, arith}
 use Rattle.std.specs.List.{range_with_len}
 use Rattle.std.proofs.lemmas.List.FromFn.{length-map-range_with_len, map-range_with_len_more}
-use Rattle.std.proofs.lemmas.List.{append-nil, drop_more, drop_all, get_or_at, set_at}
+use Rattle.std.proofs.lemmas.List.{drop_more, get_or_at, set_at}
 use Rattle.bench.specs.declared.retiming.NodeRecord.{NodeRecord}
 use Rattle.bench.specs.Retimings.{unlagged}
 use Rattle.bench.specs.Moves.{new_record}
@@ -28,10 +28,3 @@ module _ (old now' : List NodeRecord) (factor : ℕ) (shifts : List ℤ) (k : �
       ∙ set_at (map (new_record old factor shifts) (range_with_len 0 k)) (get_or old k unlagged) (drop (k + 1) old) (new_record old factor shifts k) k (length-map-range_with_len (new_record old factor shifts) 0 k)
       ∙ sym (append_assoc (map (new_record old factor shifts) (range_with_len 0 k)) (new_record old factor shifts k ∷ []) (drop (k + 1) old))
       ∙ ap (λ rs. rs ++ drop (k + 1) old) (sym (map-range_with_len_more (new_record old factor shifts) 0 k k (omega arith)))
-
--- all are moved
-pub records_all : (old now' : List NodeRecord) (factor : ℕ) (shifts : List ℤ) (k : ℕ) → length old ≤ k → k ≤ length old →
-    now' ≡ map (new_record old factor shifts) (range_with_len 0 k) ++ drop k old → now' ≡ map (new_record old factor shifts) (range_with_len 0 (length old))
-records_all old now' factor shifts k low high inv =
-    let e : k ≡ length old = omega arith in
-    inv ∙ ap (λ rest. map (new_record old factor shifts) (range_with_len 0 k) ++ rest) (drop_all k old low) ∙ append-nil _ ∙ ap (λ n. map (new_record old factor shifts) (range_with_len 0 n)) e

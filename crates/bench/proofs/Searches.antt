@@ -1,5 +1,5 @@
 -- The laws of `first`: what a loop that looks for the lowest place keeps and finds.
-use Rattle.std.proofs.Common.{◌≡◌, ℕ, zero, suc, ◌+◌, ◌<◌, ◌≤◌, true, false, is_some, Some, None, Option, sym, refl, ap, ◌∙◌, subst, ⊎_elim, add-one, arith}
+use Rattle.std.proofs.Common.{◌≡◌, ℕ, zero, suc, ◌+◌, ◌<◌, ◌≤◌, is_some, Some, None, Option, sym, refl, ap, ◌∙◌, subst, ⊎_elim, add-one, arith}
 use Rattle.std.proofs.lemmas.Bool.{true≢false, false≢true, cases_eq}
 use Rattle.bench.specs.First.{or_else, first}
 
@@ -63,15 +63,6 @@ module _ {E : Type 0} (p : ℕ → Option E) where
           (i : ℕ) × (i < suc n) × (p i ≡ Some e) × (first p i ≡ None)
       by None q k below = (n, omega arith, sym (none_or (first p n) (p n) q) ∙ k, q)
       by (Some d) q k below = let r = below e (q ∙ sym (some_or (first p n) (p n) d q) ∙ k) in (r.0, omega (arith, r.1), r.2, r.3)
-
-  -- the same, of an answer that a call gave
-  pub first_hit : (n i : ℕ) (o : Option E) → i < n → first p i ≡ None → o ≡ p i → is_some o ≡ true → o ≡ first p n
-  first_hit n i None l h e s = absurd (false≢true s)
-  first_hit n i (Some x) l h e s = sym (first_found n i x l h (sym e))
-
-  pub first_miss : (i : ℕ) (o : Option E) → first p i ≡ None → o ≡ p i → is_some o ≡ false → first p (i + 1) ≡ None
-  first_miss i None h e s = first_more i h (sym e)
-  first_miss i (Some x) h e s = absurd (true≢false s)
 
   -- places past a point that have no answer change nothing
   pub first_extend : (m n : ℕ) → m ≤ n → ((i : ℕ) → m ≤ i → i < n → p i ≡ None) → first p n ≡ first p m

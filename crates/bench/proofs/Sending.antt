@@ -1,5 +1,5 @@
 -- What a list of calls amounts to.
-use Rattle.std.proofs.Common.{◌≡◌, ℕ, zero, suc, ◌+◌, ◌*◌, ◌<◌, ◌≤◌, Bool, true, false, cond, leb, List, [], ◌∷◌, length, get_or, drop, ℤ, pos, negsuc, ◌+ℤ◌, ◌*ℤ◌, is_some, is_ok, Some, None, Option, sym, refl, ap, ◌∙◌, ap₂, add-zero, mul_assoc, mul_comm, mul-one, arith}
+use Rattle.std.proofs.Common.{◌≡◌, ℕ, zero, suc, ◌+◌, ◌*◌, ◌<◌, ◌≤◌, Bool, true, false, cond, leb, List, [], ◌∷◌, length, get_or, drop, ℤ, pos, negsuc, ◌+ℤ◌, ◌*ℤ◌, is_some, is_ok, Some, None, Option, sym, refl, ap, ◌∙◌, ap₂, add-zero, add-one, mul_assoc, mul_comm, mul-one, arith}
 use lib.IntN.{+ℤ_assoc, +ℤ_comm, zero-*ℤ, suc_ℤ-*ℤ}
 use Rattle.std.proofs.lemmas.List.{drop_more, drop_all}
 use Rattle.std.proofs.lemmas.Bool.{true≢false, false≢true}
@@ -9,7 +9,7 @@ use Rattle.words.specs.Designs.{max_nodes}
 use Rattle.bench.specs.declared.calls.Call.{Call}
 use Rattle.bench.specs.declared.calls.Call.TheVariants.{Lag, Slow, Settle}
 use Rattle.bench.specs.declared.retiming.Retiming.{Retiming}
-use Rattle.bench.specs.Calls.{row_of, call_fault, Move, counts_as, after, ended, if_accepted, moves, product, shifted, Law}
+use Rattle.bench.specs.Calls.{call_fault, Move, counts_as, after, ended, if_accepted, moves, product, shifted, Law}
 use Rattle.bench.specs.Moves.{moved, moved_lag, natural, is_lag, lags_fault, delays_fault, move_fault, made_fault, slow_fault, shifts_fault, lag_fault, settle_fault, ranks}
 use Rattle.bench.specs.Refusals.{lag_out, unless, unless_kept}
 use Rattle.bench.specs.Retimings.{lag_at}
@@ -52,7 +52,7 @@ module _ (g : Graph) (p : Retiming) where
   settle_move h = made_move g.count (ranks g p) h
 
   call_move : (c : Call) → call_fault g p c ≡ None → move_fault g p (counts_as g p c).factor (counts_as g p c).shifts ≡ None
-  call_move (Lag r) h = lag_move (row_of r) h
+  call_move (Lag shifts) h = lag_move shifts.now h
   call_move (Slow f) h = slow_move f h
   call_move Settle h = settle_move h
 
@@ -110,13 +110,14 @@ module _ (g : Graph) (p : Retiming) (cs : List Call) (k : ℕ) (d : Call) (l : k
   unfolding moves
   moves_more = ap (moves g p) (drop_more cs k d l)
 
-pub accepted_none : (o : Option Fault) → is_ok (unless o (tt {0})) ≡ true → o ≡ None
-accepted_none None h = refl
-accepted_none (Some f) h = absurd (false≢true h)
+-- an accepted call counts as one move more, and a refused one as none
+pub one_more : (o : Option Fault) (m : Move) (ms : List Move) → is_ok (unless o (tt {0})) ≡ true → length (if_accepted o m ms) ≡ length ms + 1
+one_more None m ms h = sym (add-one (length ms))
+one_more (Some f) m ms h = absurd (false≢true h)
 
-pub refused_some : (o : Option Fault) (m : Move) (ms : List Move) → is_ok (unless o (tt {0})) ≡ false → if_accepted o m ms ≡ ms
-refused_some None m ms h = absurd (true≢false h)
-refused_some (Some f) m ms h = refl
+pub none_more : (o : Option Fault) (m : Move) (ms : List Move) → is_ok (unless o (tt {0})) ≡ false → length (if_accepted o m ms) ≡ length ms
+none_more None m ms h = absurd (true≢false h)
+none_more (Some f) m ms h = refl
 
 -- nothing is left
 pub ended_all : (g : Graph) (p : Retiming) (cs : List Call) (k : ℕ) → length cs ≤ k → ended g p (drop k cs) ≡ p

@@ -1,17 +1,16 @@
 -- Settling: the ranks as a row of shifts.
-use Rattle.std.proofs.Common.{◌≡◌, ℕ, ◌-◌, ◌<◌, ◌≤◌, List, map, length, get_or, take, ℤ, pos, negsuc, ◌≤ℤ◌, sym, ap, ◌∙◌, subst, ⊎_elim, arith}
+use Rattle.std.proofs.Common.{◌≡◌, ℕ, ◌-◌, ◌<◌, ◌≤◌, true, List, map, length, get_or, take, ℤ, pos, sym, ap, ◌∙◌, subst, ⊎_elim, arith}
 use Rattle.std.specs.List.{range_with_len}
 use Rattle.std.proofs.lemmas.List.FromFn.{length-map-range_with_len, get_or-map-range_with_len}
 use Rattle.std.proofs.lemmas.List.{get_or_past}
-use Rattle.std.proofs.lemmas.Int.{ints}
-use Rattle.std.proofs.lemmas.Bool.{cases_lt}
+use Rattle.std.proofs.lemmas.Bool.{cases_lt, le-leb}
 use Rattle.words.specs.declared.graph.Graph.{Graph}
 use Rattle.words.specs.Designs.{max_nodes}
 use Rattle.bench.specs.declared.retiming.Retiming.{Retiming}
 use Rattle.bench.specs.Firing.{place_in}
-use Rattle.bench.specs.Moves.{ranks}
+use Rattle.bench.specs.Moves.{is_shift, ranks}
 use Rattle.bench.specs.Orders.{Fires}
-use Rattle.bench.specs.Retimings.{order}
+use Rattle.bench.specs.Retimings.{order, max_lag}
 use Rattle.bench.proofs.Lists.{place_below}
 
 module _ (g : Graph) (few : g.count ≤ max_nodes) (p : Retiming) (l : List ℕ) (e : l ≡ order g p) (fires : Fires g p l) where
@@ -24,17 +23,13 @@ module _ (g : Graph) (few : g.count ≤ max_nodes) (p : Retiming) (l : List ℕ)
   low : (i : ℕ) → i < g.count → place_in (order g p) i < max_nodes
   low i b = let at = place_below l i (fires.every i b) in subst (λ m. place_in m i < max_nodes) e (omega (arith, fires.whole))
 
-  within : (m : ℕ) → m < max_nodes → (negsuc 4094 ≤ℤ pos m) × (pos m ≤ℤ pos 4095)
-  within m l = (omega (arith, ints), omega (arith, ints))
+  pub ranks_long : length (ranks g p) ≡ g.count
+  ranks_long = length-map-range_with_len (λ k. pos (place_in (order g p) k)) 0 g.count
 
-  pub ranks_fit : (i : ℕ) → (negsuc 4094 ≤ℤ get_or (ranks g p) i (pos 0)) × (get_or (ranks g p) i (pos 0) ≤ℤ pos 4095)
+  pub ranks_fit : (i : ℕ) → is_shift (get_or (ranks g p) i (pos 0)) ≡ true
   ranks_fit i =
       ⊎_elim
       (λ (b : i < g.count).
-      subst (λ z. (negsuc 4094 ≤ℤ z) × (z ≤ℤ pos 4095)) (sym (get_or-map-range_with_len (λ k. pos (place_in (order g p) k)) 0 g.count i i (pos 0) b (omega arith))) (within _ (low i b)))
-      (λ (b : g.count ≤ i).
-      subst (λ z. (negsuc 4094 ≤ℤ z) × (z ≤ℤ pos 4095)) (sym (get_or_past (ranks g p) i (pos 0) (omega (arith, length-map-range_with_len (λ k. pos (place_in (order g p) k)) 0 g.count)))) (within 0 (omega arith)))
+      ap is_shift (get_or-map-range_with_len (λ k. pos (place_in (order g p) k)) 0 g.count i i (pos 0) b (omega arith)) ∙ le-leb (place_in (order g p) i) max_lag (omega (arith, low i b)))
+      (λ (b : g.count ≤ i). ap is_shift (get_or_past (ranks g p) i (pos 0) (omega (arith, ranks_long))))
       (cases_lt i g.count)
-
-  pub ranks_long : length (ranks g p) ≡ g.count
-  ranks_long = length-map-range_with_len (λ k. pos (place_in (order g p) k)) 0 g.count

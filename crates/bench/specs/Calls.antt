@@ -1,23 +1,17 @@
 -- Lists of lag, slow and settle, and what they amount to.
-use Rattle.std.specs.Prelude.{◌≡◌, ℕ, ◌*◌, ◌<◌, cond, List, [], ◌∷◌, take, ℤ, pos, ◌+ℤ◌, ◌*ℤ◌, Some, None, Option, nat_lt, slice_index_or}
+use Rattle.std.specs.Prelude.{◌≡◌, ℕ, ◌*◌, ◌<◌, List, [], ◌∷◌, ℤ, pos, ◌+ℤ◌, ◌*ℤ◌, Some, None, Option, slice_index_or}
 use Rattle.words.specs.declared.faults.Fault.{Fault}
 use Rattle.words.specs.declared.graph.Graph.{Graph}
-use Rattle.words.specs.Designs.{max_nodes}
 use Rattle.bench.specs.declared.retiming.Retiming.{Retiming}
-use Rattle.bench.specs.declared.calls.Row.{Row}
 use Rattle.bench.specs.declared.calls.Call.{Call}
 use Rattle.bench.specs.declared.calls.Call.TheVariants.{Lag, Slow, Settle}
 use Rattle.bench.specs.Moves.{moved, lag_fault, slow_fault, settle_fault, ranks}
 use Rattle.bench.specs.Refusals.{unless_kept}
 use Rattle.bench.specs.Retimings.{lag_at}
 
--- the first shifts, as many as it counts, at most 32
-abbrev pub row_of : Row → List ℤ
-row_of r = take (cond (nat_lt r.count max_nodes) r.count max_nodes) r.shifts
-
 -- the questions that a call puts
 abbrev pub call_fault : Graph → Retiming → Call → Option Fault
-call_fault g p (Lag r) = lag_fault g p (row_of r)
+call_fault g p (Lag shifts) = lag_fault g p shifts.now
 call_fault g p (Slow f) = slow_fault g p f
 call_fault g p Settle = settle_fault g p
 
@@ -28,7 +22,7 @@ pub record Move : Type 0 where
 
 -- what an accepted call counts as: a slow its factor, a lag its row, and a settle n and then the ranks that stood before it
 abbrev pub counts_as : Graph → Retiming → Call → Move
-counts_as g p (Lag r) = record { factor = 1; shifts = row_of r }
+counts_as g p (Lag shifts) = record { factor = 1; shifts = shifts.now }
 counts_as g p (Slow f) = record { factor = f; shifts = [] }
 counts_as g p Settle = record { factor = g.count; shifts = ranks g p }
 

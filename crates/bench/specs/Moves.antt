@@ -36,9 +36,13 @@ abbrev pub is_lag : ℤ → Bool
 is_lag (pos d) = nat_le d max_lag
 is_lag (negsuc d) = false
 
+-- 10, at one node
+abbrev pub lag_fault_at : ℤ → ℕ → Option Fault
+lag_fault_at lag i = cond (is_lag lag) None (Some (lag_out i))
+
 -- 10, over the lags to come of n nodes: the lowest that is out of range
 abbrev pub lags_fault : ℕ → (ℕ → ℤ) → Option Fault
-lags_fault n lags = first (λ i. cond (is_lag (lags i)) None (Some (lag_out i))) n
+lags_fault n lags = first (λ i. lag_fault_at (lags i) i) n
 
 -- 11, at one feed
 abbrev pub feed_fault : Retiming → ℕ → ℕ → Option ℕ → Option Fault

@@ -5,7 +5,6 @@ ghost use Rattle.bench.specs.Retimings.{Sound, order, at_rest, current_delay, ou
 
 use crate::retiming::Retiming;
 use words::design::Design;
-use words::graph::INPUT;
 
 /// A design on the bench: K and the lags that it was given.
 #[derive(Clone, Copy)]
@@ -31,7 +30,7 @@ impl Bench {
         let output = self.design.output();
         (
             self.retiming.factor,
-            self.retiming.records[output.node].lag as u32,
+            u32::from(self.retiming.records[output.node].lag),
         )
     }
 
@@ -39,21 +38,17 @@ impl Bench {
     pub fn lag_of(&self, node: usize) -> Option<u16>
         ensures { result ≡ (if nat_lt node self.now.design.graph.count then Some (lag_at self.now.retiming node) else None) }
     {
-        if node >= self.design.count() {
-            return None;
-        }
-        Some(self.retiming.records[node].lag)
+        let records = &self.retiming.records[0..self.design.count()];
+        records.get(node).map(|record| record.lag)
     }
 
     /// The current delay of a node's feed from a source, `None` where that source does not feed it.
     pub fn delay(&self, node: usize, source: usize) -> Option<u16>
         ensures { result ≡ current_delay self.now.design.graph self.now.retiming node source }
     {
-        let feed = self.design.feed(node, source);
-        let Some(delay) = feed else {
-            return None;
-        };
-        let ahead = self.retiming.factor * delay as u32 + self.retiming.records[node].lag as u32;
+        let delay = self.design.feed(node, source)?;
+        let lag = self.retiming.records[node].lag;
+        let ahead = self.retiming.factor * u32::from(delay) + u32::from(lag);
         Some((ahead - self.retiming.source_lag(source)) as u16)
     }
 
@@ -61,20 +56,17 @@ impl Bench {
     pub fn output_delay(&self) -> u16
         ensures { result ≡ output_delay self.now.design.graph self.now.retiming }
     {
-        (self.retiming.factor * self.design.output().delay as u32) as u16
+        (self.retiming.factor * u32::from(self.design.output().delay)) as u16
     }
 }
 
 impl Retiming {
-    /// The lag of a source; the input has none.
+    /// The lag of a source. The input has none, and no record.
     pub(crate) fn source_lag(&self, source: usize) -> u32
-        requires { source < 33 }
         ensures { result ≡ source_lag self.now source }
     {
-        if source == INPUT {
-            0
-        } else {
-            self.records[source].lag as u32
-        }
+        self.records
+            .get(source)
+            .map_or(0, |record| u32::from(record.lag))
     }
 }

@@ -3,7 +3,7 @@
 use crate::buffers::shorter_buffers_stay;
 use crate::reading::too_short;
 use bench::bench::Bench;
-use bench::calls::{Call, Row};
+use bench::calls::Call;
 use bench::verdict::Breach;
 use examples::designs::{DESIGN_E, FIR};
 use std::test::Fail;
@@ -182,11 +182,8 @@ fn an_fir_filter_lagged(rt: HostRuntime) -> Result<(), Fail> {
 #[test]
 fn calls_in_a_list(rt: HostRuntime) -> Result<(), Fail> {
     let mut bench = opened(&DESIGN_E)?;
-    let mut shifts = [0; MAX_NODES];
-    shifts[0] = 1;
-    let row = Row { shifts, count: 2 };
     let calls = [
-        Call::Lag { row },
+        Call::Lag { shifts: &[1, 0] },
         Call::Slow { factor: 65 },
         Call::Slow { factor: 3 },
         Call::Settle,
@@ -195,6 +192,15 @@ fn calls_in_a_list(rt: HostRuntime) -> Result<(), Fail> {
     assert!(rt; bench.timing() == (6, 6));
     assert_eq!(rt; bench.lag_of(0), Some(6));
     assert_eq!(rt; bench.lag_of(1), Some(1));
+    Ok(())
+}
+
+#[test]
+fn long_row_in_a_list(rt: HostRuntime) -> Result<(), Fail> {
+    let mut bench = opened(&DESIGN_E)?;
+    let calls = [Call::Lag { shifts: &[0; 33] }, Call::Settle];
+    assert_eq!(rt; bench.send(&calls), 1);
+    assert!(rt; bench.timing() == (2, 1));
     Ok(())
 }
 

@@ -1,13 +1,13 @@
-use Rattle.std.proofs.Common.{◌≡◌, ℕ, ◌+◌, ◌<◌, List, [], length, get_or, drop, is_ok, sym, ap, ◌∙◌, subst, arith}
+use Rattle.std.proofs.Common.{◌≡◌, ℕ, ◌+◌, ◌<◌, ◌≤◌, List, [], length, get_or, drop, is_ok, sym, ap, ◌∙◌, subst, arith}
 use Rattle.words.specs.declared.design.Design.{Design}
 use Rattle.words.specs.declared.graph.Graph.{Graph}
 use Rattle.words.proofs.Ranges.{ranges}
 use Rattle.bench.specs.declared.calls.Call.{Call}
 use Rattle.bench.specs.declared.calls.Call.TheVariants.{Lag}
 use Rattle.bench.specs.declared.retiming.Retiming.{Retiming}
-use Rattle.bench.specs.Calls.{call_fault, counts_as, after, ended, if_accepted, moves, Law}
+use Rattle.bench.specs.Calls.{call_fault, counts_as, after, ended, moves, Law}
 use Rattle.bench.specs.Refusals.{unless}
-use Rattle.bench.proofs.Sending.{law_ended, ended_more, moves_more, accepted_none, refused_some, ended_all, moves_all}
+use Rattle.bench.proofs.Sending.{law_ended, ended_more, moves_more, one_more, none_more, ended_all, moves_all}
 use Rattle.bench.proofs.bench.Bench.send.Goals as goal
 use Rattle.bench.proofs.bench.Bench.send.Goals.{then-is_ok, else-is_ok}
 
@@ -17,33 +17,24 @@ loop-call-preserved c =
     let p : Retiming = c.loop-call.self.retiming in
     let cs : List Call = c.args.calls.now in
     let k : ℕ = c.loop-call.call-index in
-    let d : Call = Lag (record { shifts = []; count = 0 }) in
+    let d : Call = Lag (record { ref_ptr = (0, 0); now = [] }) in
     let l : k < length cs = c.loop-call-test.true in
     let inv = c.loop-call.invariant in
     let graph : c.loop-call.self.design.graph ≡ g = ap (λ (x : Design). x.graph) inv.0 in
-    let moved' : c.make.new.self.retiming ≡ after g p (get_or cs k d) = c.make.ensures.retiming ∙ ap (λ x. after x p (get_or cs k d)) graph in
-    let answer : c.make.result ≡ unless (call_fault g p (get_or cs k d)) tt = c.make.ensures.answer ∙ ap (λ x. unless (call_fault x p (get_or cs k d)) tt) graph in
-    let rest = ap (λ q. length (moves g q (drop (k + 1) cs))) moved' in
+    let made : c.make.new.self.retiming ≡ after g p (get_or cs k d) = c.make.ensures.retiming ∙ ap (λ x. after x p (get_or cs k d)) graph in
+    let ok = c.is_ok.ensures.value ∙ ap is_ok (c.make.ensures.answer ∙ ap (λ x. unless (call_fault x p (get_or cs k d)) tt) graph) in
+    let rest = ap (λ q. length (moves g q (drop (k + 1) cs))) made in
     let more = ap length (moves_more g p cs k d l) in
+    let counted : (c.if-is_ok.accepted + length (moves g c.make.new.self.retiming (drop (k + 1) cs)) ≡ length (moves g c.args.self.now.retiming cs)) × (c.if-is_ok.accepted ≤ k + 1) =
     elim c.if-is_ok.branch [
       | then-is_ok w ↦
-          let none = accepted_none (call_fault g p (get_or cs k d)) (sym (ap is_ok answer) ∙ sym c.is_ok.ensures.value ∙ w.if-is_ok.true) in
-          let one = ap (λ o. length (if_accepted o (counts_as g p (get_or cs k d)) (moves g (after g p (get_or cs k d)) (drop (k + 1) cs)))) none in (
-            c.make.ensures.design ∙ inv.0,
-            ap (λ q. ended g q (drop (k + 1) cs)) moved' ∙ ended_more g p cs k d l ∙ inv.1,
-            omega (arith, w.accepted-is, inv.2),
-            omega (arith, w.accepted-is, inv.3),
-          )
+          let one = one_more (call_fault g p (get_or cs k d)) (counts_as g p (get_or cs k d)) (moves g (after g p (get_or cs k d)) (drop (k + 1) cs)) (sym ok ∙ w.if-is_ok.true) in
+          (omega (arith, w.accepted-is, inv.2), omega (arith, w.accepted-is, inv.3))
       | else-is_ok w ↦
-          let same =
-          refused_some (call_fault g p (get_or cs k d)) (counts_as g p (get_or cs k d)) (moves g (after g p (get_or cs k d)) (drop (k + 1) cs)) (sym (ap is_ok answer) ∙ sym c.is_ok.ensures.value ∙ w.if-is_ok.false) in
-          let none = ap length same in (
-            c.make.ensures.design ∙ inv.0,
-            ap (λ q. ended g q (drop (k + 1) cs)) moved' ∙ ended_more g p cs k d l ∙ inv.1,
-            omega (arith, w.accepted-is, inv.2),
-            omega (arith, w.accepted-is, inv.3),
-          )
-    ]
+          let none = none_more (call_fault g p (get_or cs k d)) (counts_as g p (get_or cs k d)) (moves g (after g p (get_or cs k d)) (drop (k + 1) cs)) (sym ok ∙ w.if-is_ok.false) in
+          (omega (arith, w.accepted-is, inv.2), omega (arith, w.accepted-is, inv.3))
+    ] in
+    (c.make.ensures.design ∙ inv.0, ap (λ q. ended g q (drop (k + 1) cs)) made ∙ ended_more g p cs k d l ∙ inv.1, counted.0, counted.1)
 
 pub returns : goal.returns
 returns c =

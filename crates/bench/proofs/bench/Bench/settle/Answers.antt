@@ -1,4 +1,4 @@
-use Rattle.std.proofs.Common.{◌≡◌, ℕ, ◌-◌, ◌≤◌, List, length, get_or, take, pos, negsuc, ◌≤ℤ◌, is_ok, Some, None, Ok, Option, sym, ap, ◌∙◌, subst, ap₂, arith}
+use Rattle.std.proofs.Common.{◌≡◌, ℕ, ◌-◌, ◌≤◌, List, length, get_or, take, pos, is_ok, Some, None, Ok, Option, sym, ap, ◌∙◌, subst, ap₂, arith}
 use Rattle.std.proofs.lemmas.Bool.{false≢true}
 use Rattle.words.specs.declared.design.Design.{Design}
 use Rattle.words.specs.declared.faults.Fault.{Fault}
@@ -6,7 +6,7 @@ use Rattle.words.specs.declared.graph.Graph.{Graph}
 use Rattle.words.specs.Designs.{max_nodes}
 use Rattle.words.proofs.Ranges.{ranges}
 use Rattle.bench.specs.declared.retiming.Retiming.{Retiming}
-use Rattle.bench.specs.Moves.{moved, made_fault, settle_fault, ranks}
+use Rattle.bench.specs.Moves.{moved, is_shift, made_fault, settle_fault, ranks}
 use Rattle.bench.specs.Refusals.{unless, unless_kept}
 use Rattle.bench.specs.Orders.{Fires}
 use Rattle.bench.specs.Retimings.{Sound, order}
@@ -14,7 +14,7 @@ use Rattle.bench.specs.Verdicts.{C1Holds, C2Holds}
 use Rattle.bench.proofs.Complete.{fires_order}
 use Rattle.bench.proofs.Settled.{settled_c1, settled_c2}
 use Rattle.bench.proofs.Soundness.{sound}
-use Rattle.bench.proofs.Settling.{ranks_row, ranks_fit, ranks_long}
+use Rattle.bench.proofs.Settling.{ranks_row, ranks_fit}
 use Rattle.bench.proofs.bench.Bench.settle.Goals as goal
 
 -- an accepted settle leaves the settled retiming
@@ -33,23 +33,19 @@ ranks_by_node-ranks-requires c =
     let fires = c.order.ensures.fires in
     record { few = omega (arith, fires.whole, (ranges c.args.self.now.design.graph c.args.self.now.design.sound).few); whole = λ i l. fires.every i (omega (arith, fires.whole)) }
 
-pub make_move-requires : goal.make_move-requires
-make_move-requires c =
+pub invariant_of-make_move : goal.invariant_of-make_move
+invariant_of-make_move c =
     let g : Graph = c.args.self.now.design.graph in
     let p : Retiming = c.args.self.now.retiming in
     let r = ranges g c.args.self.now.design.sound in
     let o : List ℕ = c.order.result in
-    let fit = ranks_fit g r.few p o c.order.ensures.listed c.order.ensures.fires in
     let row : take (c.count-count.result - 0) c.ranks_by_node-ranks.result ≡ ranks g p =
     ranks_row g r.few p o c.order.ensures.listed c.order.ensures.fires
     c.ranks_by_node-ranks.result c.count-count.result c.count-count.ensures c.ranks_by_node-ranks.ensures.ranks in
     record {
-      factor = (omega (arith, r.some, c.count-count.ensures), omega (arith, r.few, c.count-count.ensures));
-      few = omega (arith, ap length row, ranks_long g r.few p o c.order.ensures.listed c.order.ensures.fires);
-      shifts = (
-        λ i. subst (λ l. negsuc 4094 ≤ℤ get_or l i (pos 0)) (sym row) (fit i).0,
-        λ i. subst (λ l. get_or l i (pos 0) ≤ℤ pos 4095) (sym row) (fit i).1,
-      );
+      positive = omega (arith, r.some, c.count-count.ensures);
+      slow = omega (arith, r.few, c.count-count.ensures);
+      fits = λ i. ap (λ l. is_shift (get_or l i (pos 0))) row ∙ ranks_fit g r.few p o c.order.ensures.listed c.order.ensures.fires i;
     }
 
 pub returns : goal.returns
