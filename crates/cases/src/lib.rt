@@ -5,3 +5,5 @@ pub mod designs;
 pub mod lines;
 pub mod moves;
 pub mod rows;
+#[cfg(test)]
+mod tests;
