@@ -27,7 +27,7 @@ impl Cell {
         ensures same { L.meaning library.new ≡ L.meaning library.old }
     {
         let mut sum = library.first(self.operation);
-        for tap in self.taps.as_slice() {
+        for tap in self.taps.iter() {
             let operand = moment.hears(history, *tap);
             sum = library.next(self.operation, tap.source, sum, operand);
         }
@@ -50,7 +50,7 @@ impl Plan {
         ensures past { drop (moment.now.count * length moment.now.inputs.now) history.new ≡ drop (moment.now.count * length moment.now.inputs.now) history.old }
         ensures same { L.meaning library.new ≡ L.meaning library.old }
     {
-        for cell in self.cells.as_slice() {
+        for cell in self.cells.iter() {
             let value = cell.value(library, moment, history);
             history[moment.time * moment.count + cell.node] = value;
         }

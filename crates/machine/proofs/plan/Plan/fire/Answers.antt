@@ -30,10 +30,10 @@ same_value q m n k o taps rest inputs h d t e meant counted is =
 
 pub offset_bounds-history-moment : goal.offset_bounds-history-moment
 offset_bounds-history-moment g c =
-    let row = c.as_slice-cell-items in
+    let row = c.deref-cell-items in
     let at = c.args.moment.now in
     let cell = c.cell-item.result in
-    let front = place_front c.args.self.now.cells.items row.result.now row.ensures.value c.loop-cell.cell-index c.loop-cell-test.true cell c.cell-item.is c.args.self.now.ready at.count
+    let front = place_front c.args.self.now.cells.items row.result.now row.ensures.0 c.loop-cell.cell-index c.loop-cell-test.true cell c.cell-item.is c.args.self.now.ready at.count
     (length at.inputs.now) at.time c.requires.all at.within in
     let l : at.time * at.count + cell.node < length c.loop-cell.history = omega (arith, front, c.requires.history, c.loop-cell.auto.history) in
     search rules
@@ -41,22 +41,22 @@ offset_bounds-history-moment g c =
 pub loop-cell-preserved : goal.loop-cell-preserved
 loop-cell-preserved g c =
     let m = g.L.CellLibrary.meaning in
-    let row = c.as_slice-cell-items in
+    let row = c.deref-cell-items in
     let at = c.args.moment.now in
     let plan = c.args.self.now.cells.items in
     let k = c.loop-cell.cell-index in
     let cell = c.cell-item.result in
     let h = c.loop-cell.history in
     let place = at.time * at.count + cell.node in
-    let front = place_front plan row.result.now row.ensures.value k c.loop-cell-test.true cell c.cell-item.is c.args.self.now.ready at.count (length at.inputs.now) at.time c.requires.all at.within in
+    let front = place_front plan row.result.now row.ensures.0 k c.loop-cell-test.true cell c.cell-item.is c.args.self.now.ready at.count (length at.inputs.now) at.time c.requires.all at.within in
     record {
       same = cc;
-      past = drop-set-lt (at.count * length at.inputs.now) h place c.value-value.result front ∙ c.loop-cell.invariant.past;
+      past = cc (drop-set-lt (at.count * length at.inputs.now) h place c.value-value.result front);
       filled = λ graph order range ranked whole d v solves start.
           let n : at.count ≡ graph.count = sym c.requires.all ∙ whole.count in
-          let lk : k < graph.count = omega (arith, in_plan plan row.result.now row.ensures.value k c.loop-cell-test.true cell c.cell-item.is, whole.count) in
+          let lk : k < graph.count = omega (arith, in_plan plan row.result.now row.ensures.0 k c.loop-cell-test.true cell c.cell-item.is, whole.count) in
           let planned : Planned graph (get_or order k 0) cell =
-          subst (Planned graph (get_or order k 0)) (is_cell plan row.result.now row.ensures.value k c.loop-cell-test.true cell c.cell-item.is) (whole.cells k cell lk) in
+          subst (Planned graph (get_or order k 0)) (is_cell plan row.result.now row.ensures.0 k c.loop-cell-test.true cell c.cell-item.is) (whole.cells k cell lk) in
           let filled = c.loop-cell.invariant.filled graph order range ranked whole d v solves start in
           let is = same_value _ (m c.args.library.now) at.count graph.count cell.operation cell.taps.items at.rest.now at.inputs.now h d at.time c.value-value.result c.loop-cell.invariant.same n
           (c.value-value.ensures.value d) in
@@ -70,5 +70,5 @@ pub returns-clause-values : goal.returns-clause-values
 returns-clause-values g c =
     λ graph order range ranked whole d v solves start.
     filled_on graph.count _ order ranked v c.loop-cell.history d c.args.moment.now.time c.loop-cell.cell-index
-    (omega (arith, c.loop-cell-test.false, c.loop-cell.auto.cell-index-end, ap length c.as_slice-cell-items.ensures.value, whole.count))
+    (omega (arith, c.loop-cell-test.false, c.loop-cell.auto.cell-index-end, ap length c.deref-cell-items.ensures.0, whole.count))
     (c.loop-cell.invariant.filled graph order range ranked whole d v solves start)

@@ -34,15 +34,15 @@ loop-tap-preserved g c =
     let m = g.L.CellLibrary.meaning in
     let at = c.args.moment.now in
     let cell = c.args.self.now in
-    let row = c.as_slice-tap-items in
+    let row = c.deref-tap-items in
     let i = c.loop-tap.tap-index in
     let source : is_source at.count (get_or row.result.now i first_tap).source ≡ true =
-    subst (λ (ts : List Tap). is_source at.count (get_or ts i first_tap).source ≡ true) (sym row.ensures.value)
-    (c.requires.ready.1 i first_tap (subst (λ (ts : List Tap). i < length ts) row.ensures.value c.loop-tap-test.true)) in
+    subst (λ (ts : List Tap). is_source at.count (get_or ts i first_tap).source ≡ true) (sym row.ensures.0)
+    (c.requires.ready.1 i first_tap (subst (λ (ts : List Tap). i < length ts) row.ensures.0 c.loop-tap-test.true)) in
     record {
       same = cc;
       so_far = λ d.
-          one_more (m c.first-sum.new.self) cell.operation (operand (heard_in at.count at.rest.now at.inputs.now c.args.history.now d at.time)) cell.taps.items row.result.now row.ensures.value
+          one_more (m c.first-sum.new.self) cell.operation (operand (heard_in at.count at.rest.now at.inputs.now c.args.history.now d at.time)) cell.taps.items row.result.now row.ensures.0
           (m c.loop-tap.library) i c.loop-tap.sum c.next-sum.result c.hears-operand.result c.loop-tap.invariant.same c.loop-tap-test.true (c.loop-tap.invariant.so_far d) (c.hears-operand.ensures d)
           (c.next-sum.ensures.value (source_low at.count _ at.few source));
     }
@@ -54,5 +54,5 @@ returns-clause-value g c =
     λ d.
     let hear = operand (heard_in c.args.moment.now.count c.args.moment.now.rest.now c.args.moment.now.inputs.now c.args.history.now d c.args.moment.now.time) in
     applied_all (m c.first-sum.new.self) cell.operation (map hear cell.taps.items) (m c.loop-tap.library) c.loop-tap.tap-index c.loop-tap.sum c.element.result c.loop-tap.invariant.same
-    (omega (arith, length-map cell.taps.items hear, ap length c.as_slice-tap-items.ensures.value, c.loop-tap-test.false)) (c.loop-tap.invariant.so_far d) c.element.ensures.value
+    (omega (arith, length-map cell.taps.items hear, ap length c.deref-tap-items.ensures.0, c.loop-tap-test.false)) (c.loop-tap.invariant.so_far d) c.element.ensures.value
     ∙ ap (λ q. applied q cell.operation (map hear cell.taps.items)) c.first-sum.ensures.same
