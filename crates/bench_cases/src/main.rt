@@ -116,13 +116,13 @@ fn print_delays(rt: &HostRuntime, bench: &Bench) -> io::Result<()> {
 fn print_order(rt: &HostRuntime, bench: &Bench) -> io::Result<()> {
     let order = bench.order();
     print!(rt; "order")?;
-    for node in order.nodes.iter().take(order.count) {
+    for node in order.nodes() {
         print!(rt; " {node}")?;
     }
     println!(rt; "")?;
     print!(rt; "ranks")?;
-    for rank in &order.ranks {
-        if let Some(rank) = *rank {
+    for node in 0..ASKED {
+        if let Some(rank) = order.rank_of(node) {
             print!(rt; " {rank}")?;
         }
     }

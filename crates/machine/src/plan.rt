@@ -61,13 +61,14 @@ impl Plan {
         ensures ranked { Ranked bench.now.design.graph.count (feed_at bench.now.design.graph) (order bench.now.design.graph at_rest) }
     {
         let order = bench.source_order();
+        let nodes = order.nodes();
         let mut cells = [Cell::blank(); MAX_NODES];
-        for rank in 0..order.count {
-            cells[rank] = Cell::of(bench.design(), order.nodes[rank] as usize);
+        for rank in 0..nodes.len() {
+            cells[rank] = Cell::of(bench.design(), nodes[rank] as usize);
         }
         Plan {
             cells,
-            count: order.count,
+            count: nodes.len(),
         }
     }
 }

@@ -154,7 +154,7 @@ fn print_bench(rt: &HostRuntime, bench: &Bench) -> io::Result<()> {
     }
     let order = bench.order();
     print!(rt; "  firing order")?;
-    for node in order.nodes.iter().take(order.count) {
+    for node in order.nodes() {
         print!(rt; " v{node}")?;
     }
     println!(rt; "")?;
