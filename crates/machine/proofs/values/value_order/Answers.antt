@@ -1,5 +1,4 @@
 use Rattle.words.proofs.Ranges.{ranges}
-use Rattle.bench.specs.Orders.{listed}
 use Rattle.bench.specs.Retimings.{order as order-of}
 use Rattle.bench.proofs.Complete.{ranked_order}
 use Rattle.bench.proofs.Soundness.{sound}
@@ -13,10 +12,9 @@ returns g c =
     let bench = c.args.bench.now in
     let graph = bench.design.graph in
     let range = ranges graph bench.design.sound in
-    let order = listed c.source_order.result in
+    let order = c.source_order.result in
     let ranked = c.source_order.ensures.ranked in
     record {
-      kept = c.source_order.ensures.kept;
       listed = c.source_order.ensures.listed;
       ranked = ranked;
       determined = λ m rest x. determined graph range order ranked m rest x;
