@@ -1,6 +1,7 @@
 -- Laws of a buffer that is written over.
 use Rattle.std.proofs.Common.{◌≡◌, ℕ, ◌+◌, ◌<◌, ◌≤◌, List, [], ◌∷◌, ◌++◌, length, get_or, take, drop, set, is_ok, Ok, Err, Result, sym, ap, ◌∙◌, ⊎_elim, append_assoc, add-zero, add-one, arith}
 use Rattle.std.proofs.lemmas.List.{length-append, length-drop, length-take-le, length_push, take-append-drop, take_at, drop_at, drop-drop, drop_more, set_at, set_split}
+use borrow.Rule.Slice.PartMut.{put_mid}
 use Rattle.std.proofs.lemmas.Bool.{true≢false, cond-true, cond-false, lt-ltb, le-ltb, cases_lt}
 use Rattle.words.specs.declared.faults.Fault.{Fault}
 use Rattle.bench.specs.Buffers.{overlaid, Written}
@@ -48,6 +49,10 @@ module _ {X : Type 0} (b : List X) (at : ℕ) where
         ∙ drop-drop (length ys) n b ∙ ap (λ m. drop m b) sum in
         ap (λ p. p ++ (ys ++ drop (n + length ys) (overlaid b at xs))) before ∙ ap (λ r. (take at b ++ xs) ++ (ys ++ r)) after
         ∙ append_assoc (take at b) xs (ys ++ drop (at + length (xs ++ ys)) b) ∙ ap (λ r. take at b ++ r) (sym (append_assoc xs ys (drop (at + length (xs ++ ys)) b)))
+
+-- a part of the buffer that is written over
+pub overlaid_part : {X : Type 0} (b ys : List X) (at n : ℕ) → length ys ≡ n → put_mid at n b ys ≡ overlaid b at ys
+overlaid_part b ys at n e = ap (λ r. take at b ++ (ys ++ r)) (drop-drop n at b ∙ ap (λ m. drop (at + m) b) (sym e))
 
 -- the count in an answer
 count_in : Result ℕ Fault → ℕ
