@@ -67,7 +67,7 @@ impl Bench {
         requires node { node < self.now.design.graph.count }
         ensures { program.new.items ≡ program.old.items ++ cell self.now.design.graph self.now.retiming node }
     {
-        let operation = self.design.operation(node).unwrap_or(0);
+        let operation = self.design.operation(node).unwrap();
         let lag = self.retiming.records[node].lag;
         program.push(WordKind::Cell.operation_word(node, operation, lag));
         self.put_taps(node, program);

@@ -2,7 +2,6 @@ use Rattle.std.proofs.Common.{◌≡◌, ℕ, ◌+◌, ◌≤◌, List, [], ◌�
 use Rattle.std.proofs.lemmas.List.{append-nil, length-append, length-take-le, length_push, take_all}
 use Rattle.words.specs.declared.graph.Graph.{Graph}
 use Rattle.words.specs.declared.graph.Node.{Node}
-use Rattle.words.specs.declared.graph.Output.{Output}
 use Rattle.words.specs.Designs.{InRange, absent}
 use Rattle.words.specs.Encoding.{head_word, node_word, output_word, end_word, feed_words, node_words, body, encoded}
 use Rattle.words.specs.Fields.{place_word}
@@ -56,12 +55,6 @@ body_stands c =
     let nodes = noded c.args.design.now.graph _ _ _ _ _ _ _ c.new-words.ensures c.count.ensures c.count_word.ensures c.push.ensures.items c.nodes-node-items.ensures c.loop-number-test.false c.loop-number.invariant in
     let delay : c.from.result ≡ c.output-output.result.delay = c.from.ensures in
     c.push-2.ensures.items ∙ ap₂ (λ ws w. ws ++ w ∷ []) nodes (c.place_word.ensures ∙ ap (place_word 4 c.output-output.result.node) delay ∙ ap output_word c.output-output.ensures)
-
-pub place_word-requires : goal.place_word-requires
-place_word-requires c =
-    let r = ranges c.args.design.now.graph c.args.design.now.sound in
-    let node = ap (λ (o : Output). o.node) c.output-output.ensures in
-    (omega (arith, r.few, r.output_node), omega (arith, r.output_delay, c.from.ensures, ap (λ (o : Output). o.delay) c.output-output.ensures))
 
 pub push-requires-2 : goal.push-requires-2
 push-requires-2 c =

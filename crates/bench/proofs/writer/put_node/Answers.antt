@@ -1,6 +1,6 @@
-use Rattle.std.proofs.Common.{◌≡◌, ℕ, ◌<◌, List, [], ◌∷◌, ◌++◌, length, take, Option, sym, ap, ◌∙◌, arith}
-use Rattle.std.proofs.lemmas.List.{append-nil, length-append, take_all}
-use Rattle.words.specs.Encoding.{node_word, feed_word, feed_words}
+use Rattle.std.proofs.Common.{ℕ, ◌<◌, List, [], ◌∷◌, ◌++◌, length, take, Option, sym, ap, ◌∙◌, arith}
+use Rattle.std.proofs.lemmas.List.{append-nil, length-append}
+use Rattle.words.specs.Encoding.{feed_word, feed_words}
 use Rattle.bench.proofs.Writing.{appended, row_some, row_none, row_few}
 use Rattle.bench.proofs.writer.put_node.Goals as goal
 use Rattle.bench.proofs.writer.put_node.Goals.{in-Some, in_default}
@@ -29,11 +29,3 @@ loop-source-preserved c =
           ∙ ap (λ v. before ++ (so_far ++ v ∷ [])) (w.place_word.ensures ∙ ap (feed_word s) w.from.ensures) ∙ ap (λ ws. before ++ ws) (sym (row_some fs s d l w.in-Some.is))
       | in_default w ↦ ap (λ v. v.items) w.words-is ∙ c.loop-source.invariant ∙ ap (λ ws. before ++ ws) (sym (row_none fs s l w.in_default.is))
     ]
-
-pub returns : goal.returns
-returns c =
-    let feeds : List ℕ = feed_words 0 c.args.node.now.feeds in
-    let done = take_all c.loop-source.source c.args.node.now.feeds (omega arith) in
-    let word : c.operation_word.result ≡ node_word c.args.number c.args.node.now.operation = omega arith in
-    appended c.args.words.now.items (c.operation_word.result ∷ []) feeds c.push.ensures.items (c.loop-source.invariant ∙ ap (λ fs. c.push.new.self.items ++ feed_words 0 fs) done)
-    ∙ ap (λ w. c.args.words.now.items ++ w ∷ feeds) word

@@ -1,10 +1,7 @@
-use Rattle.std.proofs.Common.{◌≡◌, length, unwrap_or, sym, ap, ◌∙◌, arith}
+use Rattle.std.proofs.Common.{◌≡◌, unwrap_or, sym, ap, ◌∙◌}
 use Rattle.std.proofs.lemmas.Bool.{cond-true, cond-false, eq-eqb, ne_eqb}
-use Rattle.std.proofs.lemmas.List.{length-take-le}
 use Rattle.words.specs.declared.graph.Graph.{Graph}
 use Rattle.words.specs.declared.graph.Output.{Output}
-use Rattle.words.proofs.Ranges.{ranges}
-use Rattle.bench.specs.Programs.{reach}
 use Rattle.bench.specs.Retimings.{output_delay}
 use Rattle.bench.specs.declared.retiming.Retiming.{Retiming}
 use Rattle.bench.proofs.Emitting.{reach_first, reach_next}
@@ -28,11 +25,3 @@ loop-node-preserved c =
     let g : Graph = c.args.self.now.design.graph in
     let p : Retiming = c.args.self.now.retiming in
     c.max-length.ensures ∙ reach_next g p c.args.source c.loop-node.node _ _ c.loop-node.invariant (c.unwrap_or.ensures ∙ ap (λ o. unwrap_or o 0) c.delay.ensures)
-
-pub returns : goal.returns
-returns c =
-    let g : Graph = c.args.self.now.design.graph in
-    let p : Retiming = c.args.self.now.retiming in
-    let r = ranges g c.args.self.now.design.sound in
-    let all : c.loop-node.node ≡ g.count = omega (arith, ap length c.nodes-items.ensures, length-take-le g.count g.nodes (omega (arith, r.few, r.table))) in
-    c.loop-node.invariant ∙ ap (reach g p c.args.source) all

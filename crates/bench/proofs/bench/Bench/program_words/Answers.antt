@@ -7,28 +7,13 @@ use Rattle.bench.specs.declared.retiming.Retiming.{Retiming}
 use Rattle.bench.specs.Programs.{in_turn, line_at, cells, program_body, program}
 use Rattle.bench.specs.Retimings.{output_delay}
 use Rattle.bench.proofs.Emitting.{lines_long, cells_long}
-use Rattle.bench.proofs.Soundness.{sound}
 use Rattle.bench.proofs.bench.Bench.program_words.Goals as goal
-
-pub place_word-requires : goal.place_word-requires
-place_word-requires c =
-    let g : Graph = c.args.self.now.design.graph in
-    let p : Retiming = c.args.self.now.retiming in
-    (omega (arith, (ranges g c.args.self.now.design.sound).few, c.count.ensures), omega (arith, (sound g p c.args.self.now.sound).slow))
 
 pub put_cells-requires : goal.put_cells-requires
 put_cells-requires c =
     let g : Graph = c.args.self.now.design.graph in
     let lines = lines_long g c.args.self.now.retiming c.push.new.self.items (g.count + 1) c.put_lines.ensures in
     omega (arith, (ranges g c.args.self.now.design.sound).few, ap length c.new-program.ensures, c.push.ensures.len)
-
-pub place_word-requires-2 : goal.place_word-requires-2
-place_word-requires-2 c =
-    let g : Graph = c.args.self.now.design.graph in
-    let p : Retiming = c.args.self.now.retiming in
-    let r = ranges g c.args.self.now.design.sound in
-    let node = ap (λ (o : Output). o.node) c.output-output.ensures in
-    (omega (arith, r.few, r.output_node), omega (arith, c.from-delay.ensures, c.output_delay.ensures, (sound g p c.args.self.now.sound).output))
 
 -- how many words stand before the output
 few : (g : Graph) → g.count ≤ 32 → (p : Retiming) (none head lines cells' : List ℕ) → none ≡ [] → length head ≡ length none + 1 → lines ≡ head ++ in_turn (line_at g p) (g.count + 1) →

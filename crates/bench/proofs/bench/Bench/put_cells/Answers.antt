@@ -4,7 +4,7 @@ use Rattle.words.proofs.Ranges.{ranges}
 use Rattle.bench.specs.declared.order.Order.{Order}
 use Rattle.bench.specs.declared.retiming.Retiming.{Retiming}
 use Rattle.bench.specs.Orders.{listed}
-use Rattle.bench.specs.Programs.{cell, cells}
+use Rattle.bench.specs.Programs.{cell}
 use Rattle.bench.specs.Retimings.{order}
 use Rattle.bench.proofs.Emitting.{turn_none, turn_more, cells_long}
 use Rattle.bench.proofs.Lists.{has_at}
@@ -32,10 +32,3 @@ loop-node-preserved c =
     let k : ℕ = c.loop-node.node-index in
     let node : c.from.result ≡ get_or (order g p) k 0 = c.from.ensures ∙ ap (λ l. get_or l k 0) c.order-order.ensures.listed in
     turn_more (λ r. cell g p (get_or (order g p) r 0)) c.args.program.now.items k c.loop-node.invariant (c.put_cell.ensures ∙ ap (λ i. c.loop-node.program.items ++ cell g p i) node)
-
-pub returns : goal.returns
-returns c =
-    let g : Graph = c.args.self.now.design.graph in
-    let p : Retiming = c.args.self.now.retiming in
-    let all : c.loop-node.node-index ≡ g.count = omega (arith, c.loop-node-test.false, c.loop-node.auto.node-index-end, c.order-order.ensures.fires.whole) in
-    c.loop-node.invariant ∙ ap (λ n. c.args.program.now.items ++ cells g p n) all

@@ -1,9 +1,7 @@
-use Rattle.std.proofs.Common.{◌≡◌, [], ◌∷◌, ◌++◌, ap, ◌∙◌, arith}
+use Rattle.std.proofs.Common.{arith}
 use Rattle.words.specs.declared.graph.Graph.{Graph}
-use Rattle.words.specs.Programs.{line_word}
 use Rattle.words.proofs.Ranges.{ranges}
 use Rattle.bench.specs.declared.retiming.Retiming.{Retiming}
-use Rattle.bench.specs.Programs.{line_length}
 use Rattle.bench.proofs.Emitting.{line_few}
 use Rattle.bench.proofs.Soundness.{sound}
 use Rattle.bench.proofs.bench.Bench.put_line.Goals as goal
@@ -14,9 +12,3 @@ place_word-requires c =
     let p : Retiming = c.args.self.now.retiming in
     let few = line_few g (ranges g c.args.self.now.design.sound) p (sound g p c.args.self.now.sound) c.args.source in
     (omega (arith, c.requires.source), omega (arith, c.from-length.ensures, c.line_length.ensures))
-
-pub returns : goal.returns
-returns c =
-    let word : c.place_word.result ≡ line_word c.args.source (line_length c.args.self.now.design.graph c.args.self.now.retiming c.args.source) =
-    c.place_word.ensures ∙ ap (line_word c.args.source) (c.from-length.ensures ∙ c.line_length.ensures) in
-    c.push.ensures.items ∙ ap (λ v. c.args.program.now.items ++ v ∷ []) word
