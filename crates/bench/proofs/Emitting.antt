@@ -1,49 +1,70 @@
 -- The steps of emitting a program.
-use Rattle.std.proofs.Common.{◌≡◌, ℕ, zero, suc, ◌+◌, ◌<◌, ◌≤◌, Bool, true, false, cond, eqb, ◌⊎◌, List, ◌++◌, Some, None, Option, unwrap_or, sym, refl, ap, ◌∙◌, subst, inl, inr, ⊎_elim, append_assoc, add-one, arith}
-use Rattle.std.proofs.lemmas.List.{append-nil}
-use Rattle.std.proofs.lemmas.Bool.{cases_lt, cases_eq, cond-true, cond-false, lt-ltb, le-ltb, eq-eqb, ne_eqb}
+use Rattle.std.proofs.Common.{◌≡◌, ℕ, zero, suc, ◌+◌, ◌<◌, ◌≤◌, Bool, true, false, cond, eqb, max, ◌⊎◌, ◌*◌, List, [], ◌∷◌, ◌++◌, length, get_or, Some, None, Option, unwrap_or, sym, refl, ap, ◌∙◌, ap₂, subst, inl, inr, ⊎_elim, add-one, arith}
+use Rattle.std.proofs.lemmas.List.{append-nil, length-append}
+use Rattle.std.proofs.lemmas.Bool.{cases_lt, cases_eq, cond-true, cond-false, eq-eqb, ne_eqb}
 use Rattle.words.specs.declared.graph.Graph.{Graph}
-use Rattle.words.specs.Designs.{InRange}
+use Rattle.words.specs.Designs.{InRange, input}
+use Rattle.words.specs.Programs.{line_word}
 use Rattle.bench.specs.declared.retiming.Retiming.{Retiming}
-use Rattle.bench.specs.Programs.{in_turn, greater, output_reach, reach, line_length, Reaches}
-use Rattle.bench.specs.Retimings.{Sound, current_delay, output_delay, max_delay}
+use Rattle.bench.specs.Programs.{in_turn, line_at, tap_if, taps, cell, cells, output_reach, reach, line_length, Reaches}
+use Rattle.bench.specs.Retimings.{Sound, order, current_delay, output_delay, max_delay}
 use Rattle.bench.proofs.Settled.{fed}
 use Rattle.bench.proofs.Soundness.{feed_inside}
+use Rattle.bench.proofs.Writing.{appended}
 
 pub turn_none : (f : ℕ → List ℕ) (xs : List ℕ) → xs ≡ xs ++ in_turn f 0
 unfolding in_turn
 turn_none f xs = sym (append-nil xs)
 
-pub turn_more : (f : ℕ → List ℕ) (xs ys : List ℕ) (k : ℕ) → ys ≡ xs ++ in_turn f k → ys ++ f k ≡ xs ++ in_turn f (k + 1)
+pub turn_more : (f : ℕ → List ℕ) (xs : List ℕ) (k : ℕ) {ys zs : List ℕ} → ys ≡ xs ++ in_turn f k → zs ≡ ys ++ f k → zs ≡ xs ++ in_turn f (k + 1)
 unfolding in_turn
-turn_more f xs ys k e = ap (λ l. l ++ f k) e ∙ append_assoc xs (in_turn f k) (f k) ∙ ap (λ n. xs ++ in_turn f n) (sym (add-one k))
+turn_more f xs k e q = appended xs (in_turn f k) (f k) e q ∙ ap (λ n. xs ++ in_turn f n) (sym (add-one k))
 
-greater_up : (a b : ℕ) → a < b → greater a b ≡ b
-greater_up a b l = cond-true _ _ _ (lt-ltb a b l)
+-- turns of at most m words each
+pub turns_few : (f : ℕ → List ℕ) (m : ℕ) → ((k : ℕ) → length (f k) ≤ m) → (k : ℕ) → length (in_turn f k) ≤ k * m
+unfolding in_turn
+turns_few f m few zero = omega arith
+turns_few f m few (suc k) = omega (arith, turns_few f m few k, few k, length-append (in_turn f k) (f k))
 
-greater_stays : (a b : ℕ) → b ≤ a → greater a b ≡ a
-greater_stays a b l = cond-false _ _ _ (le-ltb a b l)
+-- how long a program is after so many turns
+turns_long : (f : ℕ → List ℕ) (m : ℕ) → ((k : ℕ) → length (f k) ≤ m) → (xs : List ℕ) (k : ℕ) {ys : List ℕ} → ys ≡ xs ++ in_turn f k → length ys ≤ length xs + k * m
+turns_long f m few xs k e = omega (arith, ap length e, length-append xs (in_turn f k), turns_few f m few k)
 
-greater_either : (a b : ℕ) → ((greater a b ≡ a) × (b ≤ a)) ⊎ ((greater a b ≡ b) × (a < b))
-greater_either a b = ⊎_elim (λ (l : a < b). inr (greater_up a b l, l)) (λ (l : b ≤ a). inl (greater_stays a b l, l)) (cases_lt a b)
+module _ (g : Graph) (p : Retiming) where
+  pub lines_long : (xs : List ℕ) (k : ℕ) {ys : List ℕ} → ys ≡ xs ++ in_turn (line_at g p) k → length ys ≤ length xs + k
+  lines_long xs k e = omega (arith, turns_long (line_at g p) 1 (λ i. omega arith) xs k e)
+
+  tap_one : (j : ℕ) (o : Option ℕ) → length (tap_if j o) ≤ 1
+  tap_one j None = omega arith
+  tap_one j (Some d) = omega arith
+
+  pub taps_long : (i : ℕ) (xs : List ℕ) (k : ℕ) {ys : List ℕ} → ys ≡ xs ++ taps g p i k → length ys ≤ length xs + k
+  taps_long i xs k e = omega (arith, turns_long (λ j. tap_if j (current_delay g p i j)) 1 (λ j. tap_one j (current_delay g p i j)) xs k e)
+
+  cell_few : (i : ℕ) → length (cell g p i) ≤ 34
+  cell_few i = omega (arith, turns_few (λ j. tap_if j (current_delay g p i j)) 1 (λ j. tap_one j (current_delay g p i j)) 33)
+
+  pub cells_long : (xs : List ℕ) (k : ℕ) {ys : List ℕ} → ys ≡ xs ++ cells g p k → length ys ≤ length xs + k * 34
+  cells_long xs k e = turns_long (λ r. cell g p (get_or (order g p) r 0)) 34 (λ r. cell_few (get_or (order g p) r 0)) xs k e
+
+-- the lines in their places
+pub node_line : (g : Graph) (p : Retiming) (i : ℕ) → i < g.count → line_word i (line_length g p i) ∷ [] ≡ line_at g p i
+node_line g p i l = ap (λ j. line_word j (line_length g p j) ∷ []) (sym (cond-false _ input i (ne_eqb i g.count (λ e. omega arith))))
+
+pub input_line : (g : Graph) (p : Retiming) → line_word input (line_length g p input) ∷ [] ≡ line_at g p g.count
+input_line g p = ap (λ j. line_word j (line_length g p j) ∷ []) (sym (cond-true _ input g.count (eq-eqb g.count g.count refl)))
+
+max_either : (a b : ℕ) → ((max a b ≡ a) × (b ≤ a)) ⊎ ((max a b ≡ b) × (a < b))
+max_either a b = ⊎_elim (λ (l : a < b). inr (omega arith, l)) (λ (l : b ≤ a). inl (omega arith, l)) (cases_lt a b)
 
 module _ (g : Graph) (p : Retiming) (j : ℕ) where
-  reach_next : (k : ℕ) → reach g p j (k + 1) ≡ greater (reach g p j k) (unwrap_or (current_delay g p k j) 0)
-  unfolding reach
-  reach_next k = ap (reach g p j) (add-one k)
-
   pub reach_first : (n : ℕ) → n ≡ output_reach g p j → n ≡ reach g p j 0
   unfolding reach
   reach_first n e = e
 
-  pub reach_none : (k : ℕ) → current_delay g p k j ≡ None → reach g p j (k + 1) ≡ reach g p j k
-  reach_none k e = reach_next k ∙ ap (λ o. greater (reach g p j k) (unwrap_or o 0)) e ∙ greater_stays (reach g p j k) 0 (omega arith)
-
-  pub reach_more : (k d : ℕ) → current_delay g p k j ≡ Some d → reach g p j k < d → reach g p j (k + 1) ≡ d
-  reach_more k d e l = reach_next k ∙ ap (λ o. greater (reach g p j k) (unwrap_or o 0)) e ∙ greater_up (reach g p j k) d l
-
-  pub reach_same : (k d : ℕ) → current_delay g p k j ≡ Some d → d ≤ reach g p j k → reach g p j (k + 1) ≡ reach g p j k
-  reach_same k d e l = reach_next k ∙ ap (λ o. greater (reach g p j k) (unwrap_or o 0)) e ∙ greater_stays (reach g p j k) d l
+  pub reach_next : (k n d : ℕ) → n ≡ reach g p j k → d ≡ unwrap_or (current_delay g p k j) 0 → max n d ≡ reach g p j (k + 1)
+  unfolding reach
+  reach_next k n d e h = ap₂ max e h ∙ ap (reach g p j) (sym (add-one k))
 
 pub delay_few : (g : Graph) → InRange g → (p : Retiming) → Sound g p → (i j d : ℕ) → current_delay g p i j ≡ Some d → d ≤ max_delay
 delay_few g r p s i j d e =
@@ -71,9 +92,9 @@ module _ (g : Graph) (r : InRange g) (p : Retiming) (s : Sound g p) (j : ℕ) wh
   reach_few zero = output_few
   reach_few (suc k) =
       ⊎_elim
-      (λ (h : (greater (reach g p j k) (unwrap_or (current_delay g p k j) 0) ≡ reach g p j k) × (unwrap_or (current_delay g p k j) 0 ≤ reach g p j k)). omega (arith, h.0, reach_few k))
-      (λ (h : (greater (reach g p j k) (unwrap_or (current_delay g p k j) 0) ≡ unwrap_or (current_delay g p k j) 0) × (reach g p j k < unwrap_or (current_delay g p k j) 0)). omega (arith, h.0, value_few k))
-      (greater_either (reach g p j k) (unwrap_or (current_delay g p k j) 0))
+      (λ (h : (max (reach g p j k) (unwrap_or (current_delay g p k j) 0) ≡ reach g p j k) × (unwrap_or (current_delay g p k j) 0 ≤ reach g p j k)). omega (arith, h.0, reach_few k))
+      (λ (h : (max (reach g p j k) (unwrap_or (current_delay g p k j) 0) ≡ unwrap_or (current_delay g p k j) 0) × (reach g p j k < unwrap_or (current_delay g p k j) 0)). omega (arith, h.0, value_few k))
+      (max_either (reach g p j k) (unwrap_or (current_delay g p k j) 0))
 
   pub line_few : line_length g p j ≤ max_delay
   line_few = reach_few g.count
@@ -84,9 +105,9 @@ module _ (g : Graph) (p : Retiming) (j : ℕ) where
   unfolding reach
   grows k =
       ⊎_elim
-      (λ (h : (greater (reach g p j k) (unwrap_or (current_delay g p k j) 0) ≡ reach g p j k) × (unwrap_or (current_delay g p k j) 0 ≤ reach g p j k)). (omega (arith, h.0), omega (arith, h.0, h.1)))
-      (λ (h : (greater (reach g p j k) (unwrap_or (current_delay g p k j) 0) ≡ unwrap_or (current_delay g p k j) 0) × (reach g p j k < unwrap_or (current_delay g p k j) 0)). (omega (arith, h.0, h.1), omega (arith, h.0)))
-      (greater_either (reach g p j k) (unwrap_or (current_delay g p k j) 0))
+      (λ (h : (max (reach g p j k) (unwrap_or (current_delay g p k j) 0) ≡ reach g p j k) × (unwrap_or (current_delay g p k j) 0 ≤ reach g p j k)). (omega (arith, h.0), omega (arith, h.0, h.1)))
+      (λ (h : (max (reach g p j k) (unwrap_or (current_delay g p k j) 0) ≡ unwrap_or (current_delay g p k j) 0) × (reach g p j k < unwrap_or (current_delay g p k j) 0)). (omega (arith, h.0, h.1), omega (arith, h.0)))
+      (max_either (reach g p j k) (unwrap_or (current_delay g p k j) 0))
 
   taps_reached : (k i d : ℕ) → i < k → current_delay g p i j ≡ Some d → d ≤ reach g p j k
   taps_reached zero i d l e = absurd (omega arith)
@@ -119,11 +140,11 @@ module _ (g : Graph) (p : Retiming) (j : ℕ) where
       (cases_eq g.output.node j)
   met (suc k) =
       ⊎_elim
-      (λ (h : (greater (reach g p j k) (unwrap_or (current_delay g p k j) 0) ≡ reach g p j k) × (unwrap_or (current_delay g p k j) 0 ≤ reach g p j k)).
+      (λ (h : (max (reach g p j k) (unwrap_or (current_delay g p k j) 0) ≡ reach g p j k) × (unwrap_or (current_delay g p k j) 0 ≤ reach g p j k)).
       subst (Met (suc k)) (sym h.0) (met_more k (reach g p j k) (met k)))
-      (λ (h : (greater (reach g p j k) (unwrap_or (current_delay g p k j) 0) ≡ unwrap_or (current_delay g p k j) 0) × (reach g p j k < unwrap_or (current_delay g p k j) 0)).
+      (λ (h : (max (reach g p j k) (unwrap_or (current_delay g p k j) 0) ≡ unwrap_or (current_delay g p k j) 0) × (reach g p j k < unwrap_or (current_delay g p k j) 0)).
       subst (Met (suc k)) (sym h.0) (here (current_delay g p k j) refl (omega (arith, h.1))))
-      (greater_either (reach g p j k) (unwrap_or (current_delay g p k j) 0))
+      (max_either (reach g p j k) (unwrap_or (current_delay g p k j) 0))
     where
       here : (o : Option ℕ) → current_delay g p k j ≡ o → 0 < unwrap_or o 0 → Met (suc k) (unwrap_or (current_delay g p k j) 0)
       here None e l = absurd (omega arith)

@@ -1,17 +1,12 @@
 -- Laws of a buffer that is written over.
-use Rattle.std.proofs.Common.{◌≡◌, ℕ, ◌+◌, ◌<◌, ◌≤◌, List, [], ◌∷◌, ◌++◌, length, get_or, take, drop, set, is_ok, Ok, Err, Result, sym, ap, ◌∙◌, ⊎_elim, append_assoc, add-zero, add-one, arith}
-use Rattle.std.proofs.lemmas.List.{length-append, length-drop, length-take-le, length_push, take-append-drop, take_at, drop_at, drop-drop, drop_more, set_at, set_split}
+use Rattle.std.proofs.Common.{◌≡◌, ℕ, ◌+◌, ◌<◌, ◌≤◌, List, [], ◌∷◌, ◌++◌, length, get_or, take, drop, set, is_ok, Ok, Err, Result, sym, ap, ◌∙◌, ⊎_elim, append_assoc, arith}
+use Rattle.std.proofs.lemmas.List.{length-append, length-take-le, length_push, take_at, drop_at, drop-drop, drop_more, set_at}
+use borrow.Rule.Slice.PartMut.{put_mid}
 use Rattle.std.proofs.lemmas.Bool.{true≢false, cond-true, cond-false, lt-ltb, le-ltb, cases_lt}
 use Rattle.words.specs.declared.faults.Fault.{Fault}
 use Rattle.bench.specs.Buffers.{overlaid, Written}
 
 module _ {X : Type 0} (b : List X) (at : ℕ) where
-  pub overlaid_none : b ≡ overlaid b at []
-  overlaid_none = sym (take-append-drop at b) ∙ ap (λ n. take at b ++ drop n b) (sym (add-zero at))
-
-  pub overlaid_one : (x : X) → at < length b → set b at x ≡ overlaid b at (x ∷ [])
-  overlaid_one x l = set_split b at x l ∙ ap (λ n. take at b ++ x ∷ drop n b) (sym (add-one at))
-
   module _ (xs : List X) where
     -- what is written so far, and what is left
     parts : overlaid b at xs ≡ (take at b ++ xs) ++ drop (at + length xs) b
@@ -19,12 +14,6 @@ module _ {X : Type 0} (b : List X) (at : ℕ) where
 
     front : at ≤ length b → length (take at b ++ xs) ≡ at + length xs
     front l = length-append (take at b) xs ∙ ap (λ n. n + length xs) (length-take-le at b l)
-
-    pub overlaid_length : at + length xs ≤ length b → length (overlaid b at xs) ≡ length b
-    overlaid_length l =
-        let f = front (omega arith) in
-        let d = length-drop (at + length xs) b in
-        ap length parts ∙ length-append (take at b ++ xs) (drop (at + length xs) b) ∙ omega arith
 
     -- one item more
     pub overlaid_more : (x : X) → at + length xs < length b → set (overlaid b at xs) (at + length xs) x ≡ overlaid b at (xs ++ x ∷ [])
@@ -48,6 +37,10 @@ module _ {X : Type 0} (b : List X) (at : ℕ) where
         ∙ drop-drop (length ys) n b ∙ ap (λ m. drop m b) sum in
         ap (λ p. p ++ (ys ++ drop (n + length ys) (overlaid b at xs))) before ∙ ap (λ r. (take at b ++ xs) ++ (ys ++ r)) after
         ∙ append_assoc (take at b) xs (ys ++ drop (at + length (xs ++ ys)) b) ∙ ap (λ r. take at b ++ r) (sym (append_assoc xs ys (drop (at + length (xs ++ ys)) b)))
+
+-- a part of the buffer that is written over
+pub overlaid_part : {X : Type 0} (b ys : List X) (at n : ℕ) → length ys ≡ n → put_mid at n b ys ≡ overlaid b at ys
+overlaid_part b ys at n e = ap (λ r. take at b ++ (ys ++ r)) (drop-drop n at b ∙ ap (λ m. drop (at + m) b) (sym e))
 
 -- the count in an answer
 count_in : Result ℕ Fault → ℕ

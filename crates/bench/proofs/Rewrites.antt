@@ -1,5 +1,5 @@
 -- The ways out of rewriting.
-use Rattle.std.proofs.Common.{◌≡◌, ℕ, ◌-◌, ◌<◌, ◌≤◌, List, length, take, is_some, is_ok, Some, None, Ok, Err, Result, sym, refl, ap, ◌∙◌, ⊎_elim, arith, MatchResult}
+use Rattle.std.proofs.Common.{◌≡◌, ℕ, ◌<◌, ◌≤◌, List, length, take, is_some, is_ok, Some, None, Ok, Err, Result, sym, refl, ap, ◌∙◌, ⊎_elim, arith, MatchResult}
 use Rattle.std.proofs.lemmas.Bool.{true≢false, cond-true, lt-ltb, cases_lt}
 use Rattle.words.specs.declared.faults.Fault.{Fault}
 use Rattle.words.specs.declared.graph.Graph.{Graph}
@@ -57,12 +57,12 @@ module _ (words before after : List ℕ) (g : Graph) (r : Result Design Fault) (
       err_same x y q = cc
 
   -- the copy is read
-  pub copy_read : (n : ℕ) → InRange g → Written (encoded g) before after (Ok n) → ReadsBack (take (n - 0) after) r → Rewritten words before after r
+  pub copy_read : (n : ℕ) → InRange g → Written (encoded g) before after (Ok n) → ReadsBack (take n after) r → Rewritten words before after r
   copy_read n range w back =
       let fits = written_fits (encoded g) before after n w in
       let long : length (encoded g) ≡ length words = ap length is in
-      let count : n - 0 ≡ length (encoded g) = omega (arith, ok_same n (length (encoded g)) (written_answer (encoded g) before after (Ok n) w fits)) in
-      let front : take (n - 0) after ≡ encoded g = written_front (encoded g) before after (Ok n) w fits (n - 0) count in
+      let count : n ≡ length (encoded g) = omega (arith, ok_same n (length (encoded g)) (written_answer (encoded g) before after (Ok n) w fits)) in
+      let front : take n after ≡ encoded g = written_front (encoded g) before after (Ok n) w fits n count in
       record {
         refuses = λ f h. absurd (never f h);
         short = λ _ l. absurd (omega arith);

@@ -7,6 +7,7 @@ pub mod Walks
 pub mod Moves
 pub mod Verdicts
 pub mod Calls
+pub mod Kinds
 pub mod Programs
 pub mod Buffers
 pub mod Refusals

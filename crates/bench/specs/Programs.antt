@@ -1,24 +1,16 @@
 -- The array program of a bench, from its lags and current delays.
-use Rattle.std.specs.Prelude.{◌≡◌, ℕ, zero, suc, ◌+◌, ◌<◌, ◌≤◌, cond, ◌⊎◌, List, [], ◌∷◌, ◌++◌, length, take, Some, None, Option, ◌==◌, nat_lt, slice_index}
+use Rattle.std.specs.Prelude.{◌≡◌, ℕ, zero, suc, ◌+◌, ◌<◌, ◌≤◌, cond, ◌⊎◌, List, [], ◌∷◌, ◌++◌, length, Some, None, Option, ◌==◌, max, slice_index}
 use Rattle.std.specs.Option.{unwrap_or}
 use Rattle.words.specs.declared.graph.Graph.{Graph}
 use Rattle.words.specs.Designs.{node_at, input, sources}
 use Rattle.words.specs.Programs.{array_word, line_word, cell_word, tap_word, array_output_word, array_end_word}
-use Rattle.bench.specs.declared.program.ProgramWords.{ProgramWords}
 use Rattle.bench.specs.declared.retiming.Retiming.{Retiming}
 use Rattle.bench.specs.Retimings.{lag_at, current_delay, output_delay, order}
-
--- the words so far
-abbrev pub put : ProgramWords → List ℕ
-put w = take w.count w.words
 
 -- the words of place 0, of place 1 and so on, of k places
 unfoldable pub in_turn : (ℕ → List ℕ) → ℕ → List ℕ
 in_turn f zero = []
 in_turn f (suc k) = in_turn f k ++ f k
-
-abbrev pub greater : ℕ → ℕ → ℕ
-greater a b = cond (nat_lt a b) b a
 
 -- how far back the output reads source j
 abbrev pub output_reach : Graph → Retiming → ℕ → ℕ
@@ -27,7 +19,7 @@ output_reach g p j = cond (g.output.node == j) (output_delay g p) 0
 -- the greatest delay at which the output or a tap of the first k nodes reads source j, or 0
 unfoldable pub reach : Graph → Retiming → ℕ → ℕ → ℕ
 reach g p j zero = output_reach g p j
-reach g p j (suc k) = greater (reach g p j k) (unwrap_or (current_delay g p k j) 0)
+reach g p j (suc k) = max (reach g p j k) (unwrap_or (current_delay g p k j) 0)
 
 -- the length of source j's line
 abbrev pub line_length : Graph → Retiming → ℕ → ℕ

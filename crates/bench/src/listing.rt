@@ -2,15 +2,13 @@
 
 ghost use Rattle.std.specs.Prelude.{◌≡◌, ◌+◌, ◌<◌, ◌≤◌, length};
 ghost use Rattle.words.specs.Encoding.{encoded};
-ghost use Rattle.bench.specs.Buffers.{Written, overlaid};
+ghost use Rattle.bench.specs.Buffers.{Written};
 ghost use Rattle.bench.specs.Listing.{digit, line_of, listed};
 
-use crate::writer::{short_buffer, write_design};
+use crate::writer::{design_words, short_buffer};
+use std::array;
 use words::design::Design;
 use words::faults::Fault;
-
-/// The longest design's words: a head, 32 nodes with 33 feeds each, the output and the end.
-const MAX_DESIGN_WORDS: usize = 1091;
 
 /// How many bytes a word's line has: eight digits and the line's end.
 const LINE: usize = 9;
@@ -20,22 +18,20 @@ fn digit_of(value: u32) -> u8
     requires { value < 16 }
     ensures { result ≡ digit value }
 {
-    if value < 10 {
-        b'0' + value as u8
-    } else {
-        b'A' - 10 + value as u8
-    }
+    char::from_digit(value, 16).unwrap().to_ascii_uppercase() as u8
 }
 
-/// Writes a word's line from place `at` on.
-fn write_line(word: u32, text: &mut [u8], at: usize)
-    requires { at + 9 ≤ length text.old }
-    ensures { text.new ≡ overlaid text.old at (line_of word) }
+/// A word's line.
+fn line_of(word: u32) -> [u8; LINE]
+    ensures { result ≡ line_of word }
 {
-    for k in 0..8 {
-        text[at + k] = digit_of((word >> (28 - 4 * k)) & 15);
-    }
-    text[at + 8] = b'\n';
+    array::from_fn(|k| {
+        if k < 8 {
+            digit_of((word >> (28 - 4 * k)) % 16)
+        } else {
+            b'\n'
+        }
+    })
 }
 
 /// Lists words to the front of `text`, and answers how many bytes there are.
@@ -48,7 +44,7 @@ pub(crate) fn list_words(words: &[u32], text: &mut [u8]) -> Result<usize, Fault>
         return Err(short_buffer(text.len(), needed));
     }
     for (k, word) in words.iter().enumerate() {
-        write_line(*word, text, k * LINE);
+        text[k * LINE..(k + 1) * LINE].copy_from_slice(&line_of(*word));
     }
     Ok(needed)
 }
@@ -57,7 +53,6 @@ pub(crate) fn list_words(words: &[u32], text: &mut [u8]) -> Result<usize, Fault>
 pub fn list_design(design: &Design, text: &mut [u8]) -> Result<usize, Fault>
     ensures { Written (listed (encoded design.now.graph)) text.old text.new result }
 {
-    let mut words = [0; MAX_DESIGN_WORDS];
-    let count = write_design(design, &mut words)?;
-    list_words(&words[0..count], text)
+    let words = design_words(design);
+    list_words(words.as_slice(), text)
 }

@@ -13,5 +13,5 @@ pub fn rewrite(words: &[u32], copy: &mut [u32]) -> Result<Design, Fault>
 {
     let design = read_design(words)?;
     let count = write_design(&design, copy)?;
-    read_design(&copy[0..count])
+    read_design(&copy[..count])
 }

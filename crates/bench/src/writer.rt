@@ -1,15 +1,22 @@
 //! Writing a design as words.
 
-ghost use Rattle.std.specs.Prelude.{◌≡◌, ◌+◌, ◌<◌, ◌≤◌, ◌∷◌, length};
-ghost use Rattle.words.specs.Encoding.{encoded, node_word, feed_words, node_words};
-ghost use Rattle.std.specs.List.{AllByRecursion};
-ghost use Rattle.bench.specs.Buffers.{Written, overlaid};
+ghost use Rattle.std.specs.Prelude.{◌≡◌, ◌+◌, ◌<◌, ◌≤◌, ◌∷◌, ◌++◌, length};
+ghost use Rattle.arrayvec.specs.ArrayVec.{array_vec_len};
+ghost use Rattle.words.specs.Encoding.{encoded, node_word, feed_words};
+ghost use Rattle.bench.specs.Buffers.{Written};
 ghost use Rattle.bench.specs.Refusals.{too_short};
 
-use crate::encode;
+use crate::encode::WordKind;
+use arrayvec::ArrayVec;
 use words::design::Design;
 use words::faults::{BenchQuestion, Fault, Question};
 use words::graph::Node;
+
+/// The longest design's words: a head, 32 nodes with 33 feeds each, the output and the end.
+const MAX_DESIGN_WORDS: usize = 1091;
+
+/// The words of a design, as far as they are made.
+pub(crate) type DesignWords = ArrayVec<u32, MAX_DESIGN_WORDS>;
 
 /// Question 14: is the buffer long enough?
 pub(crate) fn short_buffer(given: usize, needed: usize) -> Fault
@@ -22,61 +29,48 @@ pub(crate) fn short_buffer(given: usize, needed: usize) -> Fault
 pub(crate) fn write_words(from: &[u32], words: &mut [u32]) -> Result<usize, Fault>
     ensures { Written from.now words.old words.new result }
 {
-    let count = from.len();
-    if words.len() < count {
-        return Err(short_buffer(words.len(), count));
+    let needed = from.len();
+    if words.len() < needed {
+        return Err(short_buffer(words.len(), needed));
     }
-    for (k, word) in from.iter().enumerate() {
-        words[k] = *word;
-    }
-    Ok(count)
+    words[..needed].copy_from_slice(from);
+    Ok(needed)
 }
 
-/// Writes a node and its feeds from place `at` on, and answers the place after them.
-fn write_node(number: usize, node: &Node, words: &mut [u32], at: usize) -> usize
+/// A node, then its feeds.
+fn put_node(number: usize, node: &Node, words: &mut DesignWords)
     requires number { number < 32 }
     requires row { length node.now.feeds ≡ 33 }
-    requires room { at + (1 + length (feed_words 0 node.now.feeds)) ≤ length words.old }
-    ensures next { result ≡ at + (1 + length (feed_words 0 node.now.feeds)) }
-    ensures words { words.new ≡ overlaid words.old at (node_word number node.now.operation ∷ feed_words 0 node.now.feeds) }
+    requires room { array_vec_len words.old + 34 ≤ 1091 }
+    ensures { words.new.items ≡ words.old.items ++ (node_word number node.now.operation ∷ feed_words 0 node.now.feeds) }
 {
-    words[at] = encode::node_word(number, node.operation);
-    let mut next = at + 1;
+    words.push(WordKind::Node.operation_word(number, node.operation, 0));
     for (source, feed) in node.feeds.iter().enumerate() {
         if let Some(delay) = *feed {
-            words[next] = encode::feed_word(source, delay);
-            next += 1;
+            words.push(WordKind::Feed.place_word(source, u32::from(delay)));
         }
     }
-    next
 }
 
-/// Writes nodes, each with its feeds, from place `at` on, and answers the place after them.
-fn write_nodes(nodes: &[Node], words: &mut [u32], at: usize) -> usize
-    requires few { length nodes.now ≤ 32 }
-    requires rows { AllByRecursion (λ node. length node.feeds ≡ 33) nodes.now }
-    requires room { at + length (node_words 0 nodes.now) ≤ length words.old }
-    ensures next { result ≡ at + length (node_words 0 nodes.now) }
-    ensures words { words.new ≡ overlaid words.old at (node_words 0 nodes.now) }
+/// The words of a design.
+pub(crate) fn design_words(design: &Design) -> DesignWords
+    ensures { result.items ≡ encoded design.now.graph }
 {
-    let mut next = at;
-    for (number, node) in nodes.iter().enumerate() {
-        next = write_node(number, node, words, next);
+    let mut words = DesignWords::new();
+    words.push(WordKind::Head.count_word(design.count()));
+    for (number, node) in design.nodes().iter().enumerate() {
+        put_node(number, node, &mut words);
     }
-    next
+    let output = design.output();
+    words.push(WordKind::Output.place_word(output.node, u32::from(output.delay)));
+    words.push(WordKind::End.count_word(design.size()));
+    words
 }
 
 /// Writes a design's words to the front of `words`, and answers how many there are.
 pub fn write_design(design: &Design, words: &mut [u32]) -> Result<usize, Fault>
     ensures { Written (encoded design.now.graph) words.old words.new result }
 {
-    let needed = design.size();
-    if words.len() < needed {
-        return Err(short_buffer(words.len(), needed));
-    }
-    words[0] = encode::head_word(design.count());
-    let at = write_nodes(design.nodes(), words, 1);
-    words[at] = encode::output_word(design.output());
-    words[at + 1] = encode::end_word(needed);
-    Ok(needed)
+    let written = design_words(design);
+    write_words(written.as_slice(), words)
 }

@@ -3,7 +3,7 @@ use Rattle.std.specs.Prelude.{ℕ, suc, ◌+◌, ◌*◌, ◌^◌, List, [], ◌
 use Rattle.words.specs.declared.graph.Node.{Node}
 use Rattle.words.specs.declared.graph.Output.{Output}
 use Rattle.words.specs.declared.graph.Graph.{Graph}
-use Rattle.words.specs.Fields.{word_of}
+use Rattle.words.specs.Fields.{word_of, place_word}
 
 -- kind 1: the number of nodes in bits 5 to 0
 abbrev pub head_word : ℕ → ℕ
@@ -15,11 +15,11 @@ node_word i operation = word_of 2 (operation * 2 ^ 5 + i)
 
 -- kind 3: the source in bits 5 to 0, the delay in bits 13 to 6
 abbrev pub feed_word : ℕ → ℕ → ℕ
-feed_word j delay = word_of 3 (delay * 2 ^ 6 + j)
+feed_word j delay = place_word 3 j delay
 
 -- kind 4: the node in bits 5 to 0, the delay in bits 13 to 6
 abbrev pub output_word : Output → ℕ
-output_word o = word_of 4 (o.delay * 2 ^ 6 + o.node)
+output_word o = place_word 4 o.node o.delay
 
 -- kind 5: the number of words in bits 10 to 0
 abbrev pub end_word : ℕ → ℕ

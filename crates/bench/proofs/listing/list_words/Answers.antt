@@ -1,9 +1,10 @@
-use Rattle.std.proofs.Common.{length, Ok, Err, sym, ap, ◌∙◌, arith}
+use Rattle.std.proofs.Common.{◌≡◌, ℕ, ◌+◌, ◌-◌, ◌*◌, length, get_or, Ok, Err, sym, ap, ◌∙◌, arith}
 use Rattle.std.proofs.lemmas.List.{take_all}
 use Rattle.std.proofs.lemmas.Bool.{cond-true, cond-false, lt-ltb, le-ltb}
 use Rattle.bench.specs.Buffers.{overlaid}
-use Rattle.bench.specs.Listing.{listed}
+use Rattle.bench.specs.Listing.{line_of, listed}
 use Rattle.bench.specs.Refusals.{too_short}
+use Rattle.bench.proofs.Overlays.{overlaid_part}
 use Rattle.bench.proofs.Listings.{listed_length, lines_more}
 use Rattle.bench.proofs.listing.list_words.Goals as goal
 
@@ -18,8 +19,11 @@ returns-then-text-needed c =
 
 pub loop-k-preserved : goal.loop-k-preserved
 loop-k-preserved c =
-    lines_more c.args.text.now c.loop-k.text c.write_line.new.text c.args.words.now c.loop-k.k c.loop-k-test.true c.if-text-needed.false c.loop-k.invariant
-    c.write_line.ensures
+    let k : ℕ = c.loop-k.k in
+    let line : c.copy_from_slice.new.self ≡ line_of (get_or c.args.words.now k 0) = c.copy_from_slice.ensures.after ∙ c.line_of.ensures in
+    let wide : length c.copy_from_slice.new.self ≡ (k + 1) * 9 - k * 9 = ap length line ∙ omega arith in
+    lines_more c.args.text.now c.loop-k.text _ c.args.words.now k c.loop-k-test.true c.if-text-needed.false c.loop-k.invariant
+    (overlaid_part c.loop-k.text c.copy_from_slice.new.self (k * 9) _ wide ∙ ap (overlaid c.loop-k.text (k * 9)) line)
 
 pub returns : goal.returns
 returns c =

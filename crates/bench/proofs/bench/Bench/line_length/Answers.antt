@@ -1,12 +1,12 @@
-use Rattle.std.proofs.Common.{◌≡◌, ℕ, sym, ap, ◌∙◌, arith}
+use Rattle.std.proofs.Common.{◌≡◌, unwrap_or, sym, ap, ◌∙◌}
 use Rattle.std.proofs.lemmas.Bool.{cond-true, cond-false, eq-eqb, ne_eqb}
 use Rattle.words.specs.declared.graph.Graph.{Graph}
 use Rattle.words.specs.declared.graph.Output.{Output}
 use Rattle.bench.specs.Retimings.{output_delay}
 use Rattle.bench.specs.declared.retiming.Retiming.{Retiming}
-use Rattle.bench.proofs.Emitting.{reach_first, reach_none, reach_more, reach_same}
+use Rattle.bench.proofs.Emitting.{reach_first, reach_next}
 use Rattle.bench.proofs.bench.Bench.line_length.Goals as goal
-use Rattle.bench.proofs.bench.Bench.line_length.Goals.{then-output-source, else-output-source, in-Some+then-length-delay, in-Some+else-length-delay, in_default}
+use Rattle.bench.proofs.bench.Bench.line_length.Goals.{then-output-source, else-output-source}
 
 pub loop-node-init : goal.loop-node-init
 loop-node-init c =
@@ -24,11 +24,4 @@ pub loop-node-preserved : goal.loop-node-preserved
 loop-node-preserved c =
     let g : Graph = c.args.self.now.design.graph in
     let p : Retiming = c.args.self.now.retiming in
-    let k : ℕ = c.loop-node.node in
-    elim c.match-delay.branch [
-      | in-Some+then-length-delay w ↦
-          w.length-is ∙ sym (reach_more g p c.args.source k w.in-Some.delay (sym w.in-Some.ensures) (omega (arith, c.loop-node.invariant, w.if-length-delay.true)))
-      | in-Some+else-length-delay w ↦
-          w.length-is ∙ c.loop-node.invariant ∙ sym (reach_same g p c.args.source k w.in-Some.delay (sym w.in-Some.ensures) (omega (arith, c.loop-node.invariant, w.if-length-delay.false)))
-      | in_default w ↦ w.length-is ∙ c.loop-node.invariant ∙ sym (reach_none g p c.args.source k (sym w.in_default.ensures))
-    ]
+    c.max-length.ensures ∙ reach_next g p c.args.source c.loop-node.node _ _ c.loop-node.invariant (c.unwrap_or.ensures ∙ ap (λ o. unwrap_or o 0) c.delay.ensures)
