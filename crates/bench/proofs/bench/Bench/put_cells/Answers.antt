@@ -1,4 +1,4 @@
-use Rattle.std.proofs.Common.{◌≡◌, ℕ, ◌<◌, ◌++◌, List, length, get_or, sym, ap, ◌∙◌, subst, arith}
+use Rattle.std.proofs.Common.{◌≡◌, ℕ, ◌<◌, ◌++◌, List, length, get_or, ap, ◌∙◌, subst, arith, rules}
 use Rattle.words.specs.declared.graph.Graph.{Graph}
 use Rattle.words.proofs.Ranges.{ranges}
 use Rattle.bench.specs.declared.retiming.Retiming.{Retiming}
@@ -17,13 +17,12 @@ put_cell-requires c =
     let o : List ℕ = c.order-order.result in
     let k : ℕ = c.loop-node.node-index in
     let fires = c.order-order.ensures.fires in
-    let all = ap length c.nodes-node-items.ensures in
+    let here : k < length o = search rules in
+    let node : get_or o k 0 ≡ c.from.result = search rules in
     record {
       table = c.loop-node.invariant.0;
-      room = omega (arith, c.loop-node.invariant.1, (ranges g c.args.self.now.design.sound).few, c.loop-node-test.true, all, fires.whole);
-      node =
-          subst (λ i. i < g.count) (sym (c.from.ensures ∙ ap (λ l. get_or l k 0) c.nodes-node-items.ensures))
-          (fires.only (get_or o k 0) (has_at o k (omega (arith, c.loop-node-test.true, all))));
+      room = omega (arith, c.loop-node.invariant.1, (ranges g c.args.self.now.design.sound).few, here, fires.whole);
+      node = subst (λ i. i < g.count) node (fires.only (get_or o k 0) (has_at o k here));
     }
 
 pub loop-node-preserved : goal.loop-node-preserved
@@ -31,7 +30,7 @@ loop-node-preserved c =
     let g : Graph = c.args.self.now.design.graph in
     let p : Retiming = c.args.self.now.retiming in
     let k : ℕ = c.loop-node.node-index in
-    let node : c.from.result ≡ get_or (order g p) k 0 = c.from.ensures ∙ ap (λ l. get_or l k 0) (c.nodes-node-items.ensures ∙ c.order-order.ensures.listed) in (
+    let node : c.from.result ≡ get_or (order g p) k 0 = search rules in (
       c.put_cell.ensures.table,
       omega (arith, c.put_cell.ensures.count, c.loop-node.invariant.1),
       c.put_cell.ensures.put ∙ ap (λ i. put c.loop-node.program ++ cell g p i) node
@@ -43,7 +42,8 @@ returns c =
     let g : Graph = c.args.self.now.design.graph in
     let p : Retiming = c.args.self.now.retiming in
     let few = (ranges g c.args.self.now.design.sound).few in
-    let all : c.loop-node.node-index ≡ g.count = omega (arith, c.loop-node-test.false, c.loop-node.auto.node-index-end, ap length c.nodes-node-items.ensures, c.order-order.ensures.fires.whole) in
+    let end : length c.order-order.result ≡ c.loop-node.node-index = search rules in
+    let all : c.loop-node.node-index ≡ g.count = omega (arith, end, c.order-order.ensures.fires.whole) in
     record {
       table = c.loop-node.invariant.0;
       count = omega (arith, c.loop-node.invariant.1, few);
