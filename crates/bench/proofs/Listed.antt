@@ -1,15 +1,12 @@
 -- A list of nodes: its table while nodes are listed, and the rank of a node.
-use Rattle.std.proofs.Common.{◌≡◌, ℕ, suc, ◌+◌, ◌-◌, ◌<◌, Bool, true, false, cond, not, ◌==◌, ltb, List, [], ◌∷◌, ◌++◌, length, take, drop, set, replicate, is_some, Some, None, Option, position, sym, refl, ap, ◌∙◌, ⊎_elim, arith}
-use Rattle.std.proofs.lemmas.List.{length-set, take_more_set, length-replicate, drop-set-lt, drop-drop, drop-replicate}
+use Rattle.std.proofs.Common.{◌≡◌, ℕ, suc, ◌+◌, ◌-◌, ◌<◌, Bool, true, false, cond, not, ◌==◌, ltb, List, [], ◌∷◌, length, take, drop, set, replicate, is_some, Some, None, Option, position, sym, refl, ap, ◌∙◌, ⊎_elim, arith}
+use Rattle.std.proofs.lemmas.List.{length-set, drop-set-lt, drop-drop, drop-replicate}
 use Rattle.std.proofs.lemmas.Bool.{false≢true, cases_Bool, or_parts, cond-false, lt-ltb, le-ltb}
 use Rattle.std.specs.List.{position_or_len}
 use Rattle.words.specs.Designs.{max_nodes}
 use Rattle.bench.specs.Firing.{has, place_in}
 use Rattle.bench.specs.Orders.{Kept, kept_count, rank_of}
 use Rattle.bench.proofs.Lists.{place_below}
-
-pub kept_empty : Kept (replicate max_nodes 0) 0
-kept_empty = record { table = length-replicate {A = ℕ} max_nodes 0; few = omega arith; past = refl }
 
 -- one node more
 module _ (nodes : List ℕ) (count : ℕ) (k : Kept nodes count) (room : length (take count nodes) < max_nodes) (node : ℕ) where
@@ -20,9 +17,6 @@ module _ (nodes : List ℕ) (count : ℕ) (k : Kept nodes count) (room : length 
         few = omega (arith, kept_count nodes count k);
         past = drop-set-lt (count + 1) nodes count node (omega arith) ∙ sym (drop-drop 1 count nodes) ∙ ap (drop 1) k.past ∙ drop-replicate 1 (max_nodes - count) 0 ∙ ap (λ n. replicate n 0) {x = max_nodes - count - 1} {y = max_nodes - (count + 1)} (omega arith);
       }
-
-  pub listed_grown : take (count + 1) (set nodes count node) ≡ take count nodes ++ node ∷ []
-  listed_grown = take_more_set nodes count node (omega (arith, k.table, kept_count nodes count k))
 
 -- the rank of a node is the first place at which the list has it
 module _ (i : ℕ) where

@@ -1,4 +1,4 @@
-use Rattle.std.proofs.Common.{◌≡◌, ℕ, ◌<◌, ◌++◌, List, length, get_or, sym, ap, ◌∙◌, subst, arith}
+use Rattle.std.proofs.Common.{◌≡◌, ℕ, ◌<◌, ◌++◌, List, length, get_or, ap, ◌∙◌, subst, rules, arith}
 use Rattle.words.specs.declared.graph.Graph.{Graph}
 use Rattle.words.proofs.Ranges.{ranges}
 use Rattle.bench.specs.declared.retiming.Retiming.{Retiming}
@@ -17,13 +17,12 @@ put_cell-requires c =
     let o : List ℕ = c.order-order.result in
     let k : ℕ = c.loop-node.node-index in
     let fires = c.order-order.ensures.fires in
-    let all = ap length c.nodes-node-items.ensures in
     let long = cells_long g c.args.self.now.retiming c.args.program.now.items k c.loop-node.invariant in
+    let here : k < length o = search rules in
+    let node : get_or o k 0 ≡ c.from.result = search rules in
     record {
-      room = omega (arith, c.requires, (ranges g c.args.self.now.design.sound).few, c.loop-node-test.true, all, fires.whole);
-      node =
-          subst (λ i. i < g.count) (sym (c.from.ensures ∙ ap (λ l. get_or l k 0) c.nodes-node-items.ensures))
-          (fires.only (get_or o k 0) (has_at o k (omega (arith, c.loop-node-test.true, all))));
+      room = omega (arith, c.requires, (ranges g c.args.self.now.design.sound).few, here, fires.whole);
+      node = subst (λ i. i < g.count) node (fires.only (get_or o k 0) (has_at o k here));
     }
 
 pub loop-node-preserved : goal.loop-node-preserved
@@ -31,5 +30,5 @@ loop-node-preserved c =
     let g : Graph = c.args.self.now.design.graph in
     let p : Retiming = c.args.self.now.retiming in
     let k : ℕ = c.loop-node.node-index in
-    let node : c.from.result ≡ get_or (order g p) k 0 = c.from.ensures ∙ ap (λ l. get_or l k 0) (c.nodes-node-items.ensures ∙ c.order-order.ensures.listed) in
+    let node : c.from.result ≡ get_or (order g p) k 0 = search rules in
     turn_more (λ r. cell g p (get_or (order g p) r 0)) c.args.program.now.items k c.loop-node.invariant (c.put_cell.ensures ∙ ap (λ i. c.loop-node.program.items ++ cell g p i) node)
