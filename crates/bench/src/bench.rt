@@ -1,8 +1,9 @@
 //! The bench: a well-defined design with its retiming.
 
 ghost use Rattle.std.specs.Prelude.{◌≡◌, ◌<◌, length, if◌then◌else◌, Some, None, nat_lt};
-ghost use Rattle.bench.specs.Retimings.{Sound, order, at_rest, current_delay, output_delay, latency, lag_at, source_lag};
+ghost use Rattle.bench.specs.Retimings.{Sound, order, at_rest, current_delay, output_delay, latency, lag_at};
 
+use crate::retimed::Retimed;
 use crate::retiming::Retiming;
 use words::design::Design;
 
@@ -16,6 +17,17 @@ pub struct Bench {
 }
 
 impl Bench {
+    /// The design under its retiming.
+    pub(crate) fn retimed(&self) -> Retimed<'_>
+        ensures design { result.design.now ≡ self.now.design }
+        ensures retiming { result.retiming ≡ self.now.retiming }
+    {
+        Retimed {
+            design: &self.design,
+            retiming: self.retiming,
+        }
+    }
+
     /// The design it was opened on.
     pub fn design(&self) -> &Design
         ensures { result.now ≡ self.now.design }
@@ -28,17 +40,14 @@ impl Bench {
         ensures { result ≡ (self.now.retiming.factor, latency self.now.design.graph self.now.retiming) }
     {
         let output = self.design.output();
-        (
-            self.retiming.factor,
-            u32::from(self.retiming.records[output.node].lag),
-        )
+        (self.retiming.factor, self.retiming.lag(output.node))
     }
 
     /// By how many cycles a node lags, `None` where there is no such node.
     pub fn lag_of(&self, node: usize) -> Option<u16>
         ensures { result ≡ (if nat_lt node self.now.design.graph.count then Some (lag_at self.now.retiming node) else None) }
     {
-        let records = &self.retiming.records[0..self.design.count()];
+        let records = &self.retiming.records[..self.design.count()];
         records.get(node).map(|record| record.lag)
     }
 
@@ -46,10 +55,7 @@ impl Bench {
     pub fn delay(&self, node: usize, source: usize) -> Option<u16>
         ensures { result ≡ current_delay self.now.design.graph self.now.retiming node source }
     {
-        let delay = self.design.feed(node, source)?;
-        let lag = self.retiming.records[node].lag;
-        let ahead = self.retiming.factor * u32::from(delay) + u32::from(lag);
-        Some((ahead - self.retiming.source_lag(source)) as u16)
+        self.retimed().delay(node, source)
     }
 
     /// The output's current delay.
@@ -57,16 +63,5 @@ impl Bench {
         ensures { result ≡ output_delay self.now.design.graph self.now.retiming }
     {
         (self.retiming.factor * u32::from(self.design.output().delay)) as u16
-    }
-}
-
-impl Retiming {
-    /// The lag of a source. The input has none, and no record.
-    pub(crate) fn source_lag(&self, source: usize) -> u32
-        ensures { result ≡ source_lag self.now source }
-    {
-        self.records
-            .get(source)
-            .map_or(0, |record| u32::from(record.lag))
     }
 }

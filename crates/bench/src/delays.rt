@@ -23,9 +23,8 @@ impl Moved {
         requires { node < 32 }
         ensures { result ≡ unless (feed_fault self.now.retiming node source (Some delay)) tt }
     {
-        let lag = self.retiming.records[node].lag;
-        let ahead = self.retiming.factor * u32::from(delay) + u32::from(lag);
-        let behind = self.retiming.source_lag(source);
+        let ahead = self.retiming.ahead(node, delay);
+        let behind = self.retiming.lag(source);
         if behind <= ahead && ahead <= behind + MAX_DELAY {
             Ok(())
         } else {

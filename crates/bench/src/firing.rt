@@ -3,35 +3,14 @@
 ghost use Rattle.std.specs.Prelude.{◌≡◌, ◌<◌, false};
 ghost use Rattle.bench.specs.Firing.{has, held_by, next};
 ghost use Rattle.bench.specs.Orders.{Fires, Ranked};
-ghost use Rattle.bench.specs.Retimings.{Sound, waits, order, at_rest};
+ghost use Rattle.bench.specs.Retimings.{waits, order, at_rest};
 ghost use Rattle.words.specs.Designs.{feed_at};
 
 use crate::bench::Bench;
 use crate::order::Order;
-use crate::retiming::Retiming;
-use words::design::Design;
-
-/// A design under a retiming that keeps its lags and delays in range.
-#[derive(Clone, Copy)]
-pub(crate) struct Retimed<'a> {
-    pub(crate) design: &'a Design,
-    pub(crate) retiming: Retiming,
-    ghost sound: { ∥ Sound design.now.graph retiming ∥₁ },
-}
+use crate::retimed::Retimed;
 
 impl Retimed<'_> {
-    /// Whether a node hears another at current delay 0.
-    fn waits(&self, node: usize, source: usize) -> bool
-        requires { source < self.now.design.now.graph.count }
-        ensures { result ≡ waits self.now.design.now.graph self.now.retiming node source }
-    {
-        let Some(delay) = self.design.feed(node, source) else {
-            return false;
-        };
-        let records = &self.retiming.records;
-        self.retiming.factor * delay as u32 + records[node].lag as u32 == records[source].lag as u32
-    }
-
     /// The lowest unlisted node that a node hears at current delay 0.
     pub(crate) fn held_by(&self, order: &Order, node: usize) -> Option<usize>
         ensures { result ≡ held_by self.now.design.now.graph.count (waits self.now.design.now.graph self.now.retiming) order.now node }
@@ -66,11 +45,7 @@ impl Bench {
         ensures listed { result ≡ order self.now.design.graph self.now.retiming }
         ensures fires { Fires self.now.design.graph self.now.retiming result }
     {
-        let retimed = Retimed {
-            design: &self.design,
-            retiming: self.retiming,
-        };
-        retimed.firing()
+        self.retimed().firing()
     }
 
     /// The order of the design itself, whatever its bench was slowed and lagged by: by its own delays of 0.

@@ -5,16 +5,14 @@ ghost use Rattle.bench.specs.Buffers.{overlaid};
 ghost use Rattle.bench.specs.First.{first};
 ghost use Rattle.bench.specs.Firing.{has, next};
 ghost use Rattle.bench.specs.Opening.{Opened};
-ghost use Rattle.bench.specs.Retimings.{waits, at_rest};
+ghost use Rattle.bench.specs.Retimings.{waits};
 ghost use Rattle.bench.specs.Walks.{Closed};
 
 use crate::bench::Bench;
-use crate::firing::Retimed;
 use crate::order::Order;
-use crate::retiming::{NodeRecord, Retiming};
+use crate::retimed::Retimed;
 use words::design::Design;
 use words::faults::{DesignQuestion, Fault, Question};
-use words::graph::MAX_NODES;
 
 impl Order {
     /// The lowest of so many nodes that is not listed.
@@ -37,21 +35,7 @@ impl Order {
     }
 }
 
-impl<'a> Retimed<'a> {
-    /// A design at rest: K is 1 and no node lags.
-    pub(crate) fn at_rest(design: &'a Design) -> Retimed<'a>
-        ensures design { result.design.now ≡ design.now }
-        ensures retiming { result.retiming ≡ at_rest }
-    {
-        Retimed {
-            design,
-            retiming: Retiming {
-                factor: 1,
-                records: [NodeRecord { lag: 0 }; MAX_NODES],
-            },
-        }
-    }
-
+impl Retimed<'_> {
     /// From an unlisted node on to the one that holds it, and on, until one is met twice: the path, and that node.
     fn walk(&self, order: &Order, start: usize) -> (Order, usize)
         requires stuck { next self.now.design.now.graph.count (waits self.now.design.now.graph self.now.retiming) order.now ≡ None }

@@ -54,7 +54,11 @@ fn print_delays(rt: &impl Print, bench: &Bench) -> io::Result<()> {
 fn print_order(rt: &impl Print, bench: &Bench) -> io::Result<()> {
     let order = bench.order();
     print_row(rt, "order", order.nodes().iter())?;
-    print_row(rt, "ranks", (0..ASKED).filter_map(|node| order.rank_of(node)))
+    print_row(
+        rt,
+        "ranks",
+        (0..ASKED).filter_map(|node| order.rank_of(node)),
+    )
 }
 
 fn print_verdict(rt: &impl Print, bench: &Bench) -> io::Result<()> {

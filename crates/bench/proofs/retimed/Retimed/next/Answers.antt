@@ -4,7 +4,7 @@ use Rattle.bench.specs.Firing.{ready}
 use Rattle.bench.specs.Retimings.{waits}
 use Rattle.bench.proofs.Finding.{first_where}
 use Rattle.bench.proofs.Listed.{has_rank}
-use Rattle.bench.proofs.firing.Retimed.next.Goals as goal
+use Rattle.bench.proofs.retimed.Retimed.next.Goals as goal
 
 pub returns : goal.returns
 returns c =

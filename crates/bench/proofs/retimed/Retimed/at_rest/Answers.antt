@@ -1,6 +1,6 @@
 use Rattle.words.proofs.Ranges.{ranges}
 use Rattle.bench.proofs.AtRest.{sound_rest}
-use Rattle.bench.proofs.firing.Retimed.at_rest.Goals as goal
+use Rattle.bench.proofs.retimed.Retimed.at_rest.Goals as goal
 
 pub invariant_of-result : goal.invariant_of-result
 invariant_of-result c = record { sound = ∣ sound_rest c.args.design.now.graph (ranges c.args.design.now.graph c.args.design.now.sound) ∣₁ }

@@ -4,7 +4,7 @@ use Rattle.bench.specs.Firing.{has}
 use Rattle.bench.specs.Retimings.{waits}
 use Rattle.bench.proofs.Finding.{first_from_find}
 use Rattle.bench.proofs.Listed.{has_rank}
-use Rattle.bench.proofs.firing.Retimed.held_by.Goals as goal
+use Rattle.bench.proofs.retimed.Retimed.held_by.Goals as goal
 
 pub returns : goal.returns
 returns c =

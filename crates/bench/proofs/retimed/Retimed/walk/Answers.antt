@@ -6,7 +6,7 @@ use Rattle.bench.specs.Retimings.{waits}
 use Rattle.bench.proofs.Fires.{next_none}
 use Rattle.bench.proofs.Listed.{ranked}
 use Rattle.bench.proofs.Walking.{path_none, path_room, path_push, path_closed}
-use Rattle.bench.proofs.firing.Retimed.walk.Goals as goal
+use Rattle.bench.proofs.retimed.Retimed.walk.Goals as goal
 
 pub loop-path-init : goal.loop-path-init
 loop-path-init c =

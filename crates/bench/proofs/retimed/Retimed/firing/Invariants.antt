@@ -1,7 +1,7 @@
 use Rattle.std.proofs.Common.{◌≡◌, ◌-◌, length}
 use Rattle.bench.specs.Firing.{listed_after}
 use Rattle.bench.specs.Retimings.{waits}
-use Rattle.bench.proofs.firing.Retimed.firing.Given as goal
+use Rattle.bench.proofs.retimed.Retimed.firing.Given as goal
 
 abbrev pub invariant-loop-node : goal.invariant-loop-node
 invariant-loop-node l = l.order ≡ listed_after l.self.design.now.graph.count (waits l.self.design.now.graph l.self.retiming) (length l.order)

@@ -5,8 +5,8 @@ use Rattle.words.proofs.Ranges.{ranges}
 use Rattle.bench.specs.Firing.{listed_after}
 use Rattle.bench.specs.Retimings.{waits}
 use Rattle.bench.proofs.Fires.{fired_one, fired_all}
-use Rattle.bench.proofs.firing.Retimed.firing.Goals as goal
-use Rattle.bench.proofs.firing.Retimed.firing.Goals.{In-Some}
+use Rattle.bench.proofs.retimed.Retimed.firing.Goals as goal
+use Rattle.bench.proofs.retimed.Retimed.firing.Goals.{In-Some}
 
 pub loop-node-init : goal.loop-node-init
 unfolding listed_after

@@ -1,7 +1,7 @@
 use Rattle.std.proofs.Common.{◌-◌, length}
 use Rattle.bench.specs.Retimings.{waits}
 use Rattle.bench.proofs.Walking.{Path}
-use Rattle.bench.proofs.firing.Retimed.walk.Given as goal
+use Rattle.bench.proofs.retimed.Retimed.walk.Given as goal
 
 abbrev pub invariant-loop-path : goal.invariant-loop-path
 invariant-loop-path l = Path l.self.design.now.graph.count (waits l.self.design.now.graph l.self.retiming) l.order l.path l.node
