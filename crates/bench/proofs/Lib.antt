@@ -1,6 +1,5 @@
 pub mod Searches
 pub mod Finding
-mod Made
 mod Lists
 pub mod Listed
 mod Fires

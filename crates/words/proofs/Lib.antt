@@ -1,4 +1,4 @@
-pub mod Filling
+pub mod Made
 pub mod Ranges
 pub mod Encodings
 mod Wholes

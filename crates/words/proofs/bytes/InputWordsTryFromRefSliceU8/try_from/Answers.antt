@@ -3,7 +3,7 @@ use Rattle.std.proofs.lemmas.List.{length-take, take_all}
 use Rattle.std.proofs.lemmas.Bool.{cases_lt}
 use Rattle.words.specs.Bytes.{word_at, taken, packed, max_bytes}
 use Rattle.words.specs.Refusals.{no_word}
-use Rattle.words.proofs.Filling.{filled_from}
+use Rattle.words.proofs.Made.{made_front}
 use Rattle.words.proofs.bytes.InputWordsTryFromRefSliceU8.try_from.Goals as goal
 
 -- the part of the bytes that is packed is what is taken
@@ -31,7 +31,7 @@ returns c =
     let bs : List ℕ = take c.min.result c.args.bytes.now in
     let p = part c.args.bytes.now c.min.result c.min.ensures in (
       ap (λ xs. length xs % 4) (sym p) ∙ c.if-taken-ne0.false,
-      filled_from (word_at bs) (length bs / 4) (λ a b q k. search rules) (λ x b l k. let whole : 4 * x + 4 ≤ length bs = omega arith in search rules) 1092 c.from_fn-words.result c.from_fn-words.ensures.items.long
-          (few c.args.bytes.now c.min.result c.min.ensures) c.from_fn-words.ensures.items.each
+      made_front (word_at bs) (length bs / 4) c.from_fn-words.result (λ k w q called. (search rules, λ l. let whole : 4 * k + 4 ≤ length bs = omega arith in search rules)) 1092 0
+          (few c.args.bytes.now c.min.result c.min.ensures) c.from_fn-words.ensures.items
           ∙ ap packed p,
     )
