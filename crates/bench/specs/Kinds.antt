@@ -1,18 +1,13 @@
--- The kinds of the words that are written.
+-- The kinds of the words of an array program.
 use Rattle.std.specs.Prelude.{ℕ}
-use Rattle.bench.specs.declared.encode.WordKind.{WordKind}
-use Rattle.bench.specs.declared.encode.WordKind.TheVariants as kind
+use Rattle.bench.specs.declared.encode.ProgramKind.{ProgramKind}
+use Rattle.bench.specs.declared.encode.ProgramKind.TheVariants as kind
 
 -- the number that stands in bits 31 to 28
-abbrev pub number_of : WordKind → ℕ
-number_of kind.Head = 1
-number_of kind.Node = 2
-number_of kind.Feed = 3
-number_of kind.Output = 4
-number_of kind.End = 5
-number_of kind.Array = 8
-number_of kind.Line = 9
-number_of kind.Cell = 10
-number_of kind.Tap = 11
-number_of kind.ArrayOutput = 12
-number_of kind.ArrayEnd = 13
+abbrev pub program_kind : ProgramKind → ℕ
+program_kind kind.Head = 8
+program_kind kind.Line = 9
+program_kind kind.Cell = 10
+program_kind kind.Tap = 11
+program_kind kind.Output = 12
+program_kind kind.End = 13

@@ -8,7 +8,7 @@ ghost use Rattle.bench.specs.Listing.{listed as text_of};
 ghost use Rattle.bench.specs.Programs.{in_turn, line_length, line_at, taps, cell, cells, program, Reaches};
 
 use crate::bench::Bench;
-use crate::encode::WordKind;
+use crate::encode::{ProgramKind, WordKind};
 use crate::listing::list_words;
 use crate::program::ProgramWords;
 use crate::writer::write_words;
@@ -37,7 +37,7 @@ impl Bench {
         ensures { program.new.items ≡ program.old.items ++ line_word source (line_length self.now.design.graph self.now.retiming source) ∷ [] }
     {
         let length = u32::from(self.line_length(source));
-        program.push(WordKind::Line.place_word(source, length));
+        program.push(ProgramKind::Line.place_word(source, length));
     }
 
     /// The lines of the nodes in order, then the input's.
@@ -57,7 +57,7 @@ impl Bench {
     {
         for source in 0..SOURCES {
             if let Some(delay) = self.delay(node, source) {
-                program.push(WordKind::Tap.place_word(source, u32::from(delay)));
+                program.push(ProgramKind::Tap.place_word(source, u32::from(delay)));
             }
         }
     }
@@ -69,7 +69,7 @@ impl Bench {
     {
         let operation = self.design.operation(node).unwrap();
         let lag = self.retiming.records[node].lag;
-        program.push(WordKind::Cell.operation_word(node, operation, lag));
+        program.push(ProgramKind::Cell.operation_word(node, operation, lag));
         self.put_taps(node, program);
     }
 
@@ -90,14 +90,14 @@ impl Bench {
     {
         let mut program = ProgramWords::new();
         let factor = self.retiming.factor;
-        program.push(WordKind::Array.place_word(self.design.count(), factor));
+        program.push(ProgramKind::Head.place_word(self.design.count(), factor));
         self.put_lines(&mut program);
         self.put_cells(&mut program);
         let output = self.design.output();
         let delay = u32::from(self.output_delay());
-        program.push(WordKind::ArrayOutput.place_word(output.node, delay));
+        program.push(ProgramKind::Output.place_word(output.node, delay));
         let count = program.len() + 1;
-        program.push(WordKind::ArrayEnd.count_word(count));
+        program.push(ProgramKind::End.count_word(count));
         program
     }
 

@@ -11,6 +11,7 @@ use arrayvec::ArrayVec;
 use words::design::Design;
 use words::faults::{BenchQuestion, Fault, Question};
 use words::graph::Node;
+use words::kinds::Kind;
 
 /// The longest design's words: a head, 32 nodes with 33 feeds each, the output and the end.
 const MAX_DESIGN_WORDS: usize = 1091;
@@ -44,10 +45,10 @@ fn put_node(number: usize, node: &Node, words: &mut DesignWords)
     requires room { array_vec_len words.old + 34 ≤ 1091 }
     ensures { words.new.items ≡ words.old.items ++ (node_word number node.now.operation ∷ feed_words 0 node.now.feeds) }
 {
-    words.push(WordKind::Node.operation_word(number, node.operation, 0));
+    words.push(Kind::Node.operation_word(number, node.operation, 0));
     for (source, feed) in node.feeds.iter().enumerate() {
         if let Some(delay) = *feed {
-            words.push(WordKind::Feed.place_word(source, u32::from(delay)));
+            words.push(Kind::Feed.place_word(source, u32::from(delay)));
         }
     }
 }
@@ -57,13 +58,13 @@ pub(crate) fn design_words(design: &Design) -> DesignWords
     ensures { result.items ≡ encoded design.now.graph }
 {
     let mut words = DesignWords::new();
-    words.push(WordKind::Head.count_word(design.count()));
+    words.push(Kind::Head.count_word(design.count()));
     for (number, node) in design.nodes().iter().enumerate() {
         put_node(number, node, &mut words);
     }
     let output = design.output();
-    words.push(WordKind::Output.place_word(output.node, u32::from(output.delay)));
-    words.push(WordKind::End.count_word(design.size()));
+    words.push(Kind::Output.place_word(output.node, u32::from(output.delay)));
+    words.push(Kind::End.count_word(design.size()));
     words
 }
 

@@ -7,5 +7,5 @@ mod draft;
 pub mod faults;
 pub mod graph;
 pub mod input;
-mod kinds;
+pub mod kinds;
 pub mod reader;
