@@ -66,12 +66,11 @@ pub(crate) fn too_short(place: usize, other: usize) -> Fault {
 fn word_buffers_of_every_length(rt: HostRuntime) -> Result<(), Fail> {
     let design = read_design(&DESIGN_E)?;
     shorter_buffers_stay(
-        &rt,
         [7; 9],
         8,
         |words| write_design(&design, words).err(),
         |length| too_short(length, 8),
-    );
+    )?;
     let mut words = [7; 9];
     assert_eq!(rt; write_design(&design, &mut words[0..8])?, 8);
     assert!(rt; &words[0..8] == DESIGN_E.as_slice());
@@ -83,12 +82,11 @@ fn word_buffers_of_every_length(rt: HostRuntime) -> Result<(), Fail> {
 fn text_buffers_of_every_length(rt: HostRuntime) -> Result<(), Fail> {
     let design = read_design(&DESIGN_E)?;
     shorter_buffers_stay(
-        &rt,
         [7; 73],
         72,
         |text| list_design(&design, text).err(),
         |length| too_short(length, 72),
-    );
+    )?;
     let mut text = [7; 73];
     assert_eq!(rt; list_design(&design, &mut text)?, 72);
     assert_eq!(rt; text[71], b'\n');
@@ -162,11 +160,25 @@ fn left_over_bytes_refuse(rt: HostRuntime) -> Result<(), Fail> {
 #[test]
 fn questions_are_numbered(rt: HostRuntime) {
     assert_eq!(rt; WordsQuestion::Word.number(), 1);
+    assert_eq!(rt; WordsQuestion::Kind.number(), 2);
+    assert_eq!(rt; WordsQuestion::Range.number(), 3);
+    assert_eq!(rt; WordsQuestion::Order.number(), 4);
     assert_eq!(rt; WordsQuestion::End.number(), 5);
     assert_eq!(rt; DesignQuestion::CycleBuffer.number(), 6);
     assert_eq!(rt; DesignQuestion::WellDefined.number(), 7);
     assert_eq!(rt; BenchQuestion::Row.number(), 8);
+    assert_eq!(rt; BenchQuestion::Shift.number(), 9);
+    assert_eq!(rt; BenchQuestion::Lag.number(), 10);
+    assert_eq!(rt; BenchQuestion::Delay.number(), 11);
+    assert_eq!(rt; BenchQuestion::Factor.number(), 12);
+    assert_eq!(rt; BenchQuestion::Slowdown.number(), 13);
     assert_eq!(rt; BenchQuestion::Buffer.number(), 14);
     assert_eq!(rt; MachineQuestion::Tap.number(), 15);
+    assert_eq!(rt; MachineQuestion::Line.number(), 16);
+    assert_eq!(rt; MachineQuestion::RestRow.number(), 17);
+    assert_eq!(rt; MachineQuestion::Registers.number(), 18);
+    assert_eq!(rt; MachineQuestion::Cycle.number(), 19);
+    assert_eq!(rt; MachineQuestion::Times.number(), 20);
+    assert_eq!(rt; MachineQuestion::History.number(), 21);
     assert_eq!(rt; MachineQuestion::Outputs.number(), 22);
 }

@@ -75,12 +75,11 @@ fn a_short_cycle_buffer_is_refused(rt: HostRuntime) -> Result<(), Fail> {
 fn short_cycle_buffers_of_every_length(rt: HostRuntime) -> Result<(), Fail> {
     let design = read_design(&DESIGN_E)?;
     shorter_buffers_stay(
-        &rt,
         [9; 3],
         2,
         |cycle| Bench::open(&design, cycle).err(),
         |length| { DesignQuestion::CycleBuffer.refused(length, 2) },
-    );
+    )?;
     Ok(())
 }
 
@@ -237,12 +236,11 @@ fn short_program_buffers_stay(rt: HostRuntime) -> Result<(), Fail> {
 fn program_buffers_of_every_length(rt: HostRuntime) -> Result<(), Fail> {
     let bench = settled(&DESIGN_E)?;
     shorter_buffers_stay(
-        &rt,
         [7; 12],
         11,
         |words| bench.emit(words).err(),
         |length| too_short(length, 11),
-    );
+    )?;
     let mut words = [7; 12];
     assert_eq!(rt; bench.emit(&mut words[0..11])?, 11);
     assert_eq!(rt; words[10], 0xD000000B);
@@ -254,12 +252,11 @@ fn program_buffers_of_every_length(rt: HostRuntime) -> Result<(), Fail> {
 fn short_listing_buffers_of_every_length(rt: HostRuntime) -> Result<(), Fail> {
     let bench = settled(&DESIGN_E)?;
     shorter_buffers_stay(
-        &rt,
         [7; 100],
         99,
         |text| bench.list(text).err(),
         |length| too_short(length, 99),
-    );
+    )?;
     Ok(())
 }
 
