@@ -2,6 +2,7 @@
 use Rattle.std.proofs.Common.{◌≡◌, ℕ, ◌+◌, ◌-◌, ◌^◌, ◌<◌, ◌≤◌, Bool, true, false, cond, ◌&&◌, eqb, leb, List, [], ◌∷◌, ◌++◌, length, get_or, take, drop, is_some, Some, None, Ok, Err, Option, Result, sym, refl, ap, ◌∙◌, subst, arith, MatchResult, IsErrAnd}
 use Rattle.std.proofs.lemmas.List.{take_all, take_more, drop_more, drop_all, length-drop, length-take-le, length-replicate, get_or-replicate}
 use Rattle.std.proofs.lemmas.Bool.{true≢false, and_from, eq-eqb, le-leb, ne_eqb}
+use Rattle.std.specs.Option.{option_or}
 use Rattle.words.specs.declared.faults.Fault.{Fault}
 use Rattle.words.specs.declared.design.Design.{Design}
 use Rattle.words.specs.declared.draft.Draft.{Draft}
@@ -11,7 +12,7 @@ use Rattle.words.specs.Fields.{field}
 use Rattle.words.specs.Kinds.{kind_of, kind_numbered, known, named_bits, unnamed, is_end}
 use Rattle.words.specs.Designs.{NodeInRange, InRange, blank, absent, max_nodes}
 use Rattle.words.specs.Encoding.{head_word, end_word, node_words, encoded}
-use Rattle.words.specs.Questions.{asked, may_stand, fields_in_range, in_order, ends_well, count_of, nodes_in, in_node, after_output, refused_from, refused, or_else}
+use Rattle.words.specs.Questions.{asked, may_stand, fields_in_range, in_order, ends_well, count_of, nodes_in, in_node, after_output, refused_from, refused}
 use Rattle.words.specs.Refusals.{words_fault, no_word, misplaced, out_of_range, out_of_order, wrong_end}
 use Rattle.words.specs.declared.faults.WordsQuestion.{WordsQuestion}
 use Rattle.words.specs.declared.faults.WordsQuestion.TheVariants as question
@@ -80,7 +81,7 @@ module _ (words : List ℕ) where
       let w : ℕ = get_or words i 0 in
       let p : List ℕ = take i words in
       let at : place_of f ≡ i = asked_place p w (drop (i + 1) words) f h ∙ length-take-le i words (omega arith) in (
-        sym walked ∙ ap (refused_from p) (drop_more words i 0 l) ∙ ap (λ o. or_else o (cond (is_end (kind_of w)) None (refused_from (p ++ w ∷ []) (drop (i + 1) words)))) h,
+        sym walked ∙ ap (refused_from p) (drop_more words i 0 l) ∙ ap (λ o. option_or o (cond (is_end (kind_of w)) None (refused_from (p ++ w ∷ []) (drop (i + 1) words)))) h,
         subst (StopsAt words) (sym at) (stops words i f l from h),
       )
 
@@ -195,7 +196,7 @@ ended_reads words i design l walked k h =
     let all : p ++ w ∷ [] ≡ words = sym (take_more words i 0 l) ∙ take_all (i + 1) words (omega arith) in
     let rest : drop i words ≡ w ∷ [] = drop_more words i 0 l ∙ ap (λ ws. w ∷ ws) none in (
       sym walked ∙ ap (refused_from p) rest
-          ∙ ap (λ o. or_else o (cond (is_end (kind_of w)) None (refused_from (p ++ w ∷ []) []))) h.2
+          ∙ ap (λ o. option_or o (cond (is_end (kind_of w)) None (refused_from (p ++ w ∷ []) []))) h.2
           ∙ ap (λ b. cond b None (refused_from (p ++ w ∷ []) [])) k,
       h.0 ∙ all,
     )

@@ -2,6 +2,7 @@
 use Rattle.std.proofs.Common.{◌≡◌, ℕ, ◌+◌, ◌<◌, ◌≤◌, Bool, true, false, cond, ◌&&◌, eqb, List, [], ◌∷◌, ◌++◌, length, get_or, take, drop, is_some, Some, None, Option, sym, refl, ap, ◌∙◌, subst, inl, inr, ⊎_elim, append_assoc, arith}
 use Rattle.std.proofs.lemmas.List.{append-nil, length-append, length-drop, take_more, take_all, take-take, take-append-drop, nil_from_length}
 use Rattle.std.proofs.lemmas.Bool.{true≢false, cases_Bool, and_parts, eqb-true, cases_lt}
+use Rattle.std.specs.Option.{option_or}
 use Rattle.words.specs.declared.faults.Fault.{Fault}
 use Rattle.words.specs.declared.graph.Node.{Node}
 use Rattle.words.specs.declared.graph.Output.{Output}
@@ -13,7 +14,7 @@ use Rattle.words.specs.Kinds.{kind_of, unnamed, is_end}
 use Rattle.words.specs.Fields.{field}
 use Rattle.words.specs.Refusals.{misplaced, out_of_range, wrong_end}
 use Rattle.words.specs.Encoding.{head_word, output_word, end_word, node_words, body, encoded}
-use Rattle.words.specs.Questions.{asked, asked_of, may_stand, fields_in_range, count_of, ends_well, refused_from, or_else}
+use Rattle.words.specs.Questions.{asked, asked_of, may_stand, fields_in_range, count_of, ends_well, refused_from}
 use Rattle.words.specs.Designs.{InRange}
 use Rattle.words.specs.Drafts.{drafted, finished, Sound}
 use Rattle.words.specs.Reading.{Begins, StopsAt}
@@ -44,7 +45,7 @@ end_passed : (p : List ℕ) (w : ℕ) (after : List ℕ) → asked_of p w after 
     (may_stand p (Some kind.End) ≡ true) × ((eqb (unnamed w) 0 && fields_in_range (count_of p) w (Some kind.End)) ≡ true) × (ends_well p w after (Some kind.End) ≡ true)
 end_passed p w after h = tests_none _ _ _ _ _ _ (sym (end_tests p w after) ∙ h)
 
-neither : (o later : Option Fault) → or_else o later ≡ None → (o ≡ None) × (later ≡ None)
+neither : (o later : Option Fault) → option_or o later ≡ None → (o ≡ None) × (later ≡ None)
 neither None later h = (refl, h)
 neither (Some f) later h = absurd (true≢false (ap is_some h))
 

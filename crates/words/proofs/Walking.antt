@@ -3,6 +3,7 @@ use Rattle.std.proofs.Common.{◌≡◌, ℕ, suc, ◌+◌, ◌-◌, ◌*◌, �
 use Rattle.std.specs.List.{AllByRecursion}
 use Rattle.std.proofs.lemmas.List.{append-nil, length-take-le}
 use Rattle.std.proofs.lemmas.Bool.{lt-ltb, le-leb, eq-eqb, and_from, ltb-true, eqb-true, or_cases}
+use Rattle.std.specs.Option.{option_or}
 use Rattle.words.specs.declared.graph.Node.{Node}
 use Rattle.words.specs.declared.graph.Output.{Output}
 use Rattle.words.specs.declared.graph.Graph.{Graph}
@@ -12,7 +13,7 @@ use Rattle.words.specs.Fields.{field}
 use Rattle.words.specs.Kinds.{kind_of, named_bits, unnamed, is_end}
 use Rattle.words.specs.Designs.{NodeInRange, InRange, is_source, sources, max_nodes, input, byte}
 use Rattle.words.specs.Encoding.{head_word, node_word, feed_word, output_word, end_word, feed_words, node_words, body, encoded}
-use Rattle.words.specs.Questions.{asked, refused_from, refused, or_else, count_of}
+use Rattle.words.specs.Questions.{asked, refused_from, refused, count_of}
 use Rattle.words.specs.Drafts.{Stands}
 use Rattle.words.proofs.Wholes.{kind_made, low_field, clear_field, low_only, clear_only}
 use Rattle.words.proofs.Standing.{stands_head, stands_node, stands_feed, stands_output}
@@ -24,7 +25,7 @@ pub passes : (p : List ℕ) (w : ℕ) (after : List ℕ) (k : Option Kind) → k
     refused_from p (w ∷ after) ≡ refused_from (p ++ w ∷ []) after
 unfolding refused_from
 passes p w after k e more none =
-    ap (λ o. or_else o (cond (is_end (kind_of w)) None (refused_from (p ++ w ∷ []) after))) none
+    ap (λ o. option_or o (cond (is_end (kind_of w)) None (refused_from (p ++ w ∷ []) after))) none
     ∙ ap (λ κ. cond (is_end κ) None (refused_from (p ++ w ∷ []) after)) e
     ∙ ap (λ b. cond b None (refused_from (p ++ w ∷ []) after)) more
 
@@ -136,7 +137,7 @@ end_passes p n seen least s few =
     let clear : field 11 17 w ≡ 0 = clear_only 11 17 5 (length p + 1) refl (omega arith) in
     let none : asked p w [] ≡ None =
     allow p w [] (Some kind.End) k s.output (and_from _ _ (eq-eqb _ _ (clear_as w (Some kind.End) k clear)) refl) refl (and_from _ _ (eq-eqb _ _ count) refl) in
-    ap (λ o. or_else o (cond (is_end (kind_of w)) None (refused_from (p ++ w ∷ []) []))) none ∙ ap (λ κ. cond (is_end κ) None (refused_from (p ++ w ∷ []) [])) k
+    ap (λ o. option_or o (cond (is_end (kind_of w)) None (refused_from (p ++ w ∷ []) []))) none ∙ ap (λ κ. cond (is_end κ) None (refused_from (p ++ w ∷ []) [])) k
 
 -- the law: nothing of a design's encoding is refused
 pub encoded_passes : (g : Graph) → InRange g → refused (encoded g) ≡ None

@@ -1,5 +1,6 @@
 -- The questions that are put at each design word in turn, over the words so far and the word at hand.
 use Rattle.std.specs.Prelude.{ℕ, suc, ◌+◌, ◌-◌, Bool, true, false, cond, ◌&&◌, ◌||◌, List, [], ◌∷◌, ◌++◌, length, Some, None, count_by, Option, ◌==◌, nat_le, nat_lt, slice_index}
+use Rattle.std.specs.Option.{option_or}
 use Rattle.words.specs.declared.faults.Fault.{Fault}
 use Rattle.words.specs.declared.kinds.Kind.{Kind}
 use Rattle.words.specs.declared.kinds.Kind.TheVariants as kind
@@ -81,15 +82,10 @@ asked_of before w after k =
 unfoldable pub asked : List ℕ → ℕ → List ℕ → Option Fault
 asked before w after = asked_of before w after (kind_of w)
 
--- a refusal at hand, or else what comes after
-abbrev pub or_else : Option Fault → Option Fault → Option Fault
-or_else None later = later
-or_else (Some f) later = Some f
-
 -- what is refused of the words from here on: each in turn, up to the end word
 unfoldable pub refused_from : List ℕ → List ℕ → Option Fault
 refused_from before [] = Some (no_word (length before))
-refused_from before (w ∷ after) = or_else (asked before w after) (cond (is_end (kind_of w)) None (refused_from (before ++ w ∷ []) after))
+refused_from before (w ∷ after) = option_or (asked before w after) (cond (is_end (kind_of w)) None (refused_from (before ++ w ∷ []) after))
 
 -- the first question answered no, at the lowest word that has one
 abbrev pub refused : List ℕ → Option Fault

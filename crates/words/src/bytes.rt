@@ -4,11 +4,11 @@ ghost use Rattle.std.specs.Prelude.{◌≡◌, ◌+◌, ◌*◌, ◌^◌, ◌<�
 ghost use Rattle.words.specs.Bytes.{Packs, word_at};
 
 use crate::faults::{Fault, WordsQuestion};
-use crate::input::InputWords;
+use crate::input::{InputWords, MAX_WORDS};
 use std::array;
 
 /// How many bytes of an input are taken at the most.
-pub const MAX_BYTES: usize = 4368;
+pub const MAX_BYTES: usize = 4 * MAX_WORDS;
 
 /// Word `k` of some bytes, big-endian; 0 past their end.
 fn word_at(bytes: &[u8], k: usize) -> u32

@@ -10,21 +10,21 @@ pub const INPUT: usize = 32;
 pub const SOURCES: usize = 33;
 
 /// One node: its operation, and by source the delay of the feed from there, `None` where that source does not feed it.
-#[derive(Clone, Copy)]
+#[derive(Clone, Copy, PartialEq, Eq, Debug)]
 pub struct Node {
     pub operation: u8,
     pub feeds: [Option<u8>; SOURCES],
 }
 
 /// Where the output is read: the node, and how long before.
-#[derive(Clone, Copy)]
+#[derive(Clone, Copy, PartialEq, Eq, Debug)]
 pub struct Output {
     pub node: usize,
     pub delay: u8,
 }
 
 /// A z-graph: the first `count` nodes, and the output. `Design` holds it to its ranges.
-#[derive(Clone, Copy)]
+#[derive(Clone, Copy, PartialEq, Eq, Debug)]
 pub struct Graph {
     pub count: usize,
     pub nodes: [Node; MAX_NODES],
