@@ -2,14 +2,14 @@
 use Rattle.std.proofs.Common.{◌≡◌, ℕ, ◌+◌, ◌-◌, ◌^◌, ◌<◌, ◌≤◌, Bool, true, false, cond, ◌&&◌, eqb, leb, List, [], ◌∷◌, ◌++◌, length, get_or, take, drop, is_some, Some, None, Ok, Err, Option, Result, sym, refl, ap, ◌∙◌, subst, arith, MatchResult, IsErrAnd}
 use Rattle.std.proofs.lemmas.List.{take_all, take_more, drop_more, drop_all, length-drop, length-take-le, length-replicate, get_or-replicate}
 use Rattle.std.proofs.lemmas.Bool.{true≢false, and_from, eq-eqb, le-leb, ne_eqb}
-use Rattle.std.specs.Option.{option_or}
+use Rattle.std.specs.Option.{option_or, ok_or}
 use Rattle.words.specs.declared.faults.Fault.{Fault}
 use Rattle.words.specs.declared.design.Design.{Design}
 use Rattle.words.specs.declared.draft.Draft.{Draft}
 use Rattle.words.specs.declared.kinds.Kind.{Kind}
 use Rattle.words.specs.declared.kinds.Kind.TheVariants as kind
 use Rattle.words.specs.Fields.{field}
-use Rattle.words.specs.Kinds.{kind_of, kind_numbered, known, named_bits, unnamed, is_end}
+use Rattle.words.specs.Kinds.{kind_of, kind_numbered, named_bits, unnamed, is_end}
 use Rattle.words.specs.Designs.{NodeInRange, InRange, blank, absent, max_nodes}
 use Rattle.words.specs.Encoding.{head_word, end_word, node_words, encoded}
 use Rattle.words.specs.Questions.{asked, may_stand, fields_in_range, in_order, ends_well, count_of, nodes_in, in_node, after_output, refused_from, refused}
@@ -216,23 +216,16 @@ unknown p w e after = refuse_2 p w after None e refl
 pub headless : (p : List ℕ) (w : ℕ) → 0 < length p → kind_of w ≡ (Some kind.Head) → Failed p w question.Kind
 headless p w some e after = refuse_2 p w after (Some kind.Head) e (ne_eqb _ _ (λ q. omega arith))
 
--- what the kind of a word is known by
-pub known_ok : (o : Option Kind) (k : Kind) → known o ≡ Ok k → o ≡ Some k
-known_ok None k e = cc
-known_ok (Some j) k e = let same : j ≡ k = cc in ap Some same
+-- what an option is, by what `ok_or` makes of it
+pub ok_or_ok : {A E : Type 0} (o : Option A) (e : E) (x : A) → ok_or o e ≡ Ok x → o ≡ Some x
+ok_or_ok None e x h = cc
+ok_or_ok (Some y) e x h = let same : y ≡ x = cc in ap Some same
 
-pub known_err : (o : Option Kind) (q : WordsQuestion) → known o ≡ Err q → (o ≡ None) × (q ≡ question.Kind)
-known_err None q e = (refl, cc)
-known_err (Some j) q e = cc
+pub ok_or_err : {A E : Type 0} (o : Option A) (e q : E) → ok_or o e ≡ Err q → (o ≡ None) × (q ≡ e)
+ok_or_err None e q h = let same : e ≡ q = cc in (refl, sym same)
+ok_or_err (Some y) e q h = cc
 
 -- every encoding is read as its design
 pub back : (words : List ℕ) (r : Result Design Fault) → Reads words r → ReadsBack words r
 back words (Ok d) h g n e = encoded_tells d.graph g (ranges d.graph d.sound) n (h.1 ∙ sym e)
 back words (Err f) h g n e = true≢false (ap is_some (sym h.0 ∙ ap refused (sym e) ∙ encoded_passes g n))
-
-pub not_end : (k : Kind) → (k ≡ kind.End → ⊥) → is_end (Some k) ≡ false
-not_end kind.Head ne = refl
-not_end kind.Node ne = refl
-not_end kind.Feed ne = refl
-not_end kind.Output ne = refl
-not_end kind.End ne = absurd (ne refl)

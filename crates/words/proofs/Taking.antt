@@ -3,6 +3,7 @@ use Rattle.std.proofs.Common.{◌≡◌, ℕ, ◌-◌, Bool, true, false, not, �
 use Rattle.std.proofs.lemmas.Bool.{ne_eqb}
 use Rattle.words.specs.declared.kinds.Kind.{Kind}
 use Rattle.words.specs.declared.kinds.Kind.TheVariants as kind
+use Rattle.words.specs.declared.kinds.DesignWord.{DesignWord}
 use Rattle.words.specs.declared.draft.Draft.{Draft}
 use Rattle.words.specs.Fields.{field}
 use Rattle.words.specs.Kinds.{kind_of, named_bits, unnamed}
@@ -78,3 +79,11 @@ module _ (d : Draft) (s : Sound d) where
   pub yes : (w : ℕ) (k : Option Kind) → kind_of w ≡ k → stands_of d k ≡ true → in_range_of d w k ≡ true → orders_of d w k ≡ true →
       (after : List ℕ) → ends_well (drafted d) w after k ≡ true → asked (drafted d) w after ≡ None
   yes w k e a b c after h = allow (drafted d) w after k e (may_stand_is k ∙ a) (in_range_is w k e ∙ b) (in_order_is w k ∙ c) h
+
+-- what a word of one kind is known to be
+module _ (w : DesignWord) (k : Kind) (e : w.kind ≡ k) where
+  pub kind_as : kind_of w.word ≡ Some k
+  kind_as = w.kinded ∙ ap Some e
+
+  pub clear_as : {b : Bool} → b ≡ eqb (field (named_bits (Some w.kind)) (28 - named_bits (Some w.kind)) w.word) 0 → b ≡ eqb (field (named_bits (Some k)) (28 - named_bits (Some k)) w.word) 0
+  clear_as h = h ∙ ap (λ κ. eqb (field (named_bits (Some κ)) (28 - named_bits (Some κ)) w.word) 0) e

@@ -1,5 +1,6 @@
 -- The kinds of design words.
-use Rattle.std.specs.Prelude.{ℕ, ◌-◌, Bool, cond, ◌==◌, Some, None, Option, Ok, Err, Result}
+use Rattle.std.specs.Prelude.{ℕ, ◌-◌, Bool, cond, ◌==◌, Some, None, Option, Result}
+use Rattle.std.specs.Option.{ok_or}
 use Rattle.words.specs.declared.faults.WordsQuestion.{WordsQuestion}
 use Rattle.words.specs.declared.faults.WordsQuestion.TheVariants as question
 use Rattle.words.specs.declared.kinds.Kind.{Kind}
@@ -24,8 +25,7 @@ kind_of w = kind_numbered (kind_number w)
 
 -- a kind where there is one, and else the question whether it may stand
 abbrev pub known : Option Kind → Result Kind WordsQuestion
-known None = Err question.Kind
-known (Some k) = Ok k
+known k = ok_or k question.Kind
 
 -- how many bits at a word's low end are named; those from there up to bit 27 are not
 abbrev pub named_bits : Option Kind → ℕ

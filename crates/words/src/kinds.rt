@@ -1,6 +1,6 @@
 //! A word's fields, and the kinds of design words.
 
-ghost use Rattle.std.specs.Prelude.{◌≡◌, ◌-◌, ◌<◌, ◌==◌};
+ghost use Rattle.std.specs.Prelude.{◌≡◌, ◌-◌, ◌<◌, ◌==◌, Some};
 ghost use Rattle.words.specs.Fields.{field};
 ghost use Rattle.words.specs.Kinds.{kind_of, known, named_bits};
 
@@ -17,7 +17,7 @@ pub enum Kind {
 }
 
 /// The number in the `bits` bits of a word from bit `low` on.
-pub(crate) fn field_of(word: u32, low: u32, bits: u32) -> u32
+fn field_of(word: u32, low: u32, bits: u32) -> u32
     requires { (low < 32) × (bits < 32) }
     ensures { result ≡ field low bits word }
 {
@@ -42,6 +42,46 @@ impl TryFrom<u32> for Kind {
     }
 }
 
+/// A word and its kind.
+#[derive(Clone, Copy)]
+pub(crate) struct DesignWord {
+    pub(crate) kind: Kind,
+    word: u32,
+    ghost kinded: { kind_of word ≡ Some kind },
+}
+
+impl TryFrom<u32> for DesignWord {
+    type Error = WordsQuestion;
+
+    ghost use Rattle.std.specs.Prelude.{Err, MatchResult};
+
+    ghost try_from_gives = { λ w r. MatchResult r (λ word. word.word ≡ w) (λ question. known (kind_of w) ≡ Err question) };
+
+    /// A word by its kind, which may stand nowhere if no design word has its number.
+    fn try_from(word: u32) -> Result<DesignWord, WordsQuestion> {
+        let kind = Kind::try_from(word)?;
+        Ok(DesignWord { kind, word })
+    }
+}
+
+impl DesignWord {
+    /// The number in its `bits` bits from bit `low` on.
+    pub(crate) fn field(self, low: u32, bits: u32) -> u32
+        requires { (low < 32) × (bits < 32) }
+        ensures { result ≡ field low bits self.word }
+    {
+        field_of(self.word, low, bits)
+    }
+
+    /// Whether its unnamed bits are zero.
+    pub(crate) fn is_clear(self) -> bool
+        ensures { result ≡ (field (named_bits (Some self.kind)) (28 - named_bits (Some self.kind)) self.word == 0) }
+    {
+        let named = self.kind.named_bits();
+        self.field(named, 28 - named) == 0
+    }
+}
+
 impl Kind {
     /// How many bits at the low end of a word of this kind are named.
     fn named_bits(self) -> u32
@@ -53,13 +93,5 @@ impl Kind {
             Kind::Feed | Kind::Output => 14,
             Kind::End => 11,
         }
-    }
-
-    /// Whether the unnamed bits of a word of this kind are zero.
-    pub(crate) fn is_clear(self, word: u32) -> bool
-        ensures { result ≡ (field (named_bits (Some self)) (28 - named_bits (Some self)) word == 0) }
-    {
-        let named = self.named_bits();
-        field_of(word, named, 28 - named) == 0
     }
 }

@@ -1,7 +1,6 @@
 //! Reading design words: the questions at each word in turn.
 
-ghost use Rattle.std.specs.Prelude.{◌≡◌, ◌<◌, false, length};
-ghost use Rattle.words.specs.Kinds.{kind_of, is_end};
+ghost use Rattle.std.specs.Prelude.{◌≡◌, ◌<◌, length};
 ghost use Rattle.words.specs.Designs.{is_source};
 ghost use Rattle.words.specs.Drafts.{headed};
 ghost use Rattle.words.specs.Taking.{Begun, Taken, Ended, Read};
@@ -11,7 +10,7 @@ use crate::design::Design;
 use crate::draft::Draft;
 use crate::faults::{Fault, WordsQuestion};
 use crate::graph::{Graph, INPUT, MAX_NODES, Node, Output, SOURCES};
-use crate::kinds::{Kind, field_of};
+use crate::kinds::{DesignWord, Kind};
 use std::marker::Model;
 
 /// A design whose words are being read. It is seen as the words so far.
@@ -67,11 +66,12 @@ impl Reader {
     fn begin(word: u32) -> Result<Reader, WordsQuestion>
         ensures { Begun word result }
     {
-        if Kind::try_from(word)? != Kind::Head {
+        let word = DesignWord::try_from(word)?;
+        if word.kind != Kind::Head {
             return Err(WordsQuestion::Kind);
         }
-        let count = field_of(word, 0, 6) as usize;
-        if !Kind::Head.is_clear(word) || count < 1 || count > MAX_NODES {
+        let count = word.field(0, 6) as usize;
+        if !word.is_clear() || count < 1 || count > MAX_NODES {
             return Err(WordsQuestion::Range);
         }
         Ok(Reader {
@@ -80,97 +80,80 @@ impl Reader {
     }
 
     /// Takes a node word.
-    fn node(&mut self, word: u32) -> Result<(), WordsQuestion>
-        requires { kind_of word ≡ Some Kind.Node }
-        ensures { Taken self.old self.new word result }
+    fn node(&mut self, word: DesignWord) -> Result<(), WordsQuestion>
+        requires { word.kind ≡ Kind.Node }
+        ensures { Taken self.old self.new word.word result }
     {
         let draft = &mut self.draft;
         if draft.seen >= draft.graph.count {
             return Err(WordsQuestion::Kind);
         }
-        let number = field_of(word, 0, 5) as usize;
-        if !Kind::Node.is_clear(word) || number >= draft.graph.count {
+        let number = word.field(0, 5) as usize;
+        if !word.is_clear() || number >= draft.graph.count {
             return Err(WordsQuestion::Range);
         }
         if number != draft.seen {
             return Err(WordsQuestion::Order);
         }
-        draft.graph.nodes[draft.seen].operation = field_of(word, 5, 8) as u8;
+        draft.graph.nodes[draft.seen].operation = word.field(5, 8) as u8;
         draft.seen += 1;
         draft.least = 0;
         Ok(())
     }
 
     /// Takes a feed word.
-    fn feed(&mut self, word: u32) -> Result<(), WordsQuestion>
-        requires { kind_of word ≡ Some Kind.Feed }
-        ensures { Taken self.old self.new word result }
+    fn feed(&mut self, word: DesignWord) -> Result<(), WordsQuestion>
+        requires { word.kind ≡ Kind.Feed }
+        ensures { Taken self.old self.new word.word result }
     {
         let draft = &mut self.draft;
         if draft.seen == 0 || draft.output.is_some() {
             return Err(WordsQuestion::Kind);
         }
-        let source = field_of(word, 0, 6) as usize;
-        if !Kind::Feed.is_clear(word) || !draft.graph.has_source(source) {
+        let source = word.field(0, 6) as usize;
+        if !word.is_clear() || !draft.graph.has_source(source) {
             return Err(WordsQuestion::Range);
         }
         if source < draft.least {
             return Err(WordsQuestion::Order);
         }
-        draft.graph.nodes[draft.seen - 1].feeds[source] = Some(field_of(word, 6, 8) as u8);
+        draft.graph.nodes[draft.seen - 1].feeds[source] = Some(word.field(6, 8) as u8);
         draft.least = source + 1;
         Ok(())
     }
 
     /// Takes the output word.
-    fn output(&mut self, word: u32) -> Result<(), WordsQuestion>
-        requires { kind_of word ≡ Some Kind.Output }
-        ensures { Taken self.old self.new word result }
+    fn output(&mut self, word: DesignWord) -> Result<(), WordsQuestion>
+        requires { word.kind ≡ Kind.Output }
+        ensures { Taken self.old self.new word.word result }
     {
         let draft = &mut self.draft;
         if draft.seen != draft.graph.count || draft.output.is_some() {
             return Err(WordsQuestion::Kind);
         }
-        let node = field_of(word, 0, 6) as usize;
-        if !Kind::Output.is_clear(word) || node >= draft.graph.count {
+        let node = word.field(0, 6) as usize;
+        if !word.is_clear() || node >= draft.graph.count {
             return Err(WordsQuestion::Range);
         }
-        let delay = field_of(word, 6, 8) as u8;
+        let delay = word.field(6, 8) as u8;
         draft.least = 0;
         draft.output = Some(Output { node, delay });
         Ok(())
     }
 
-    /// Takes a word that is not the end.
-    fn take(&mut self, kind: Kind, word: u32) -> Result<(), WordsQuestion>
-        requires kind { kind_of word ≡ Some kind }
-        requires more { is_end (Some kind) ≡ false }
-        requires some { 0 < length self.old }
-        ensures { Taken self.old self.new word result }
-    {
-        match kind {
-            Kind::Node => self.node(word),
-            Kind::Feed => self.feed(word),
-            Kind::Output => self.output(word),
-            Kind::Head | Kind::End => Err(WordsQuestion::Kind),
-        }
-    }
-
     /// Reads the end word, which has that index among `given` words.
-    fn end(&self, word: u32, index: usize, given: usize) -> Result<Design, WordsQuestion>
-        requires kind { kind_of word ≡ Some Kind.End }
+    fn end(&self, word: DesignWord, index: usize, given: usize) -> Result<Design, WordsQuestion>
+        requires kind { word.kind ≡ Kind.End }
         requires index { index ≡ length self.now }
         requires given { index < given }
-        ensures { Ended self.now word given result }
+        ensures { Ended self.now word.word given result }
     {
         let draft = &self.draft;
-        let Some(output) = draft.output else {
-            return Err(WordsQuestion::Kind);
-        };
-        if !Kind::End.is_clear(word) {
+        let output = draft.output.ok_or(WordsQuestion::Kind)?;
+        if !word.is_clear() {
             return Err(WordsQuestion::Range);
         }
-        let count = field_of(word, 0, 11) as usize;
+        let count = word.field(0, 11) as usize;
         if count != index + 1 || given != index + 1 {
             return Err(WordsQuestion::End);
         }
@@ -195,11 +178,14 @@ impl Reader {
         requires given { index < given }
         ensures { Read self.old self.new word given result }
     {
-        let kind = Kind::try_from(word)?;
-        if kind == Kind::End {
-            return Ok(Some(self.end(word, index, given)?));
+        let word = DesignWord::try_from(word)?;
+        match word.kind {
+            Kind::Head => return Err(WordsQuestion::Kind),
+            Kind::Node => self.node(word)?,
+            Kind::Feed => self.feed(word)?,
+            Kind::Output => self.output(word)?,
+            Kind::End => return Ok(Some(self.end(word, index, given)?)),
         }
-        self.take(kind, word)?;
         Ok(None)
     }
 }
@@ -208,9 +194,7 @@ impl Reader {
 fn read_words(words: &[u32]) -> Result<Design, Fault>
     ensures { Reads words.now result }
 {
-    let Some((head, rest)) = words.split_first() else {
-        return Err(WordsQuestion::Word.at(0));
-    };
+    let (head, rest) = words.split_first().ok_or(WordsQuestion::Word.at(0))?;
     let mut reader = Reader::begin(*head).map_err(|question| question.at(0))?;
     for (read, word) in rest.iter().enumerate() {
         let index = read + 1;
