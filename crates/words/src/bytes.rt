@@ -1,6 +1,6 @@
 //! Bytes to words.
 
-ghost use Rattle.std.specs.Prelude.{◌≡◌, ◌+◌, ◌*◌, ◌^◌, ◌<◌, ◌≤◌, length};
+ghost use Rattle.std.specs.Prelude.{◌≡◌, ◌<◌, [], length, slice_index_or};
 ghost use Rattle.words.specs.Bytes.{Packs, word_at};
 
 use crate::faults::{Fault, WordsQuestion};
@@ -10,16 +10,13 @@ use std::array;
 /// How many bytes of an input are taken at the most.
 pub const MAX_BYTES: usize = 4 * MAX_WORDS;
 
-/// Word `k` of some bytes, big-endian; 0 past their end.
-fn word_at(bytes: &[u8], k: usize) -> u32
-    requires { k < 2 ^ 32 }
-    ensures { 4 * k + 4 ≤ length bytes.now → result ≡ word_at bytes.now k }
+/// The word of pack `k`, its first byte the highest; 0 past the packs.
+fn word_at(packs: &[[u8; 4]], k: usize) -> u32
+    ensures { k < length packs.now → result ≡ word_at (slice_index_or packs.now k []) 0 }
 {
-    let at = 4 * k;
-    if at + 4 > bytes.len() {
-        return 0;
-    }
-    u32::from_be_bytes([bytes[at], bytes[at + 1], bytes[at + 2], bytes[at + 3]])
+    packs
+        .get(k)
+        .map_or(0, |&[a, b, c, d]| u32::from_be_bytes([a, b, c, d]))
 }
 
 impl TryFrom<&[u8]> for InputWords {
@@ -29,12 +26,13 @@ impl TryFrom<&[u8]> for InputWords {
 
     /// The words of an input's first 4,368 bytes, or the refusal of one to three bytes left over.
     fn try_from(bytes: &[u8]) -> Result<InputWords, Fault> {
-        let taken = &bytes[..bytes.len().min(MAX_BYTES)];
-        let count = taken.len() / 4;
-        if taken.len() % 4 != 0 {
-            return Err(WordsQuestion::Word.at(count));
+        let (packs, left_over) = bytes[..bytes.len().min(MAX_BYTES)].as_chunks::<4>();
+        if !left_over.is_empty() {
+            return Err(WordsQuestion::Word.at(packs.len()));
         }
-        let words = array::from_fn(|k| word_at(taken, k));
-        Ok(InputWords { words, count })
+        Ok(InputWords {
+            words: array::from_fn(|k| word_at(packs, k)),
+            count: packs.len(),
+        })
     }
 }
