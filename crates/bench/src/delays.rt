@@ -10,7 +10,7 @@ use words::design::Design;
 use words::faults::{BenchQuestion, Fault, Question};
 use words::graph::{INPUT, Node};
 
-/// What a move makes of a retiming, before its delays are asked about.
+/// What a rescaling makes of a retiming, before its delays are asked about.
 #[derive(Clone, Copy)]
 pub(crate) struct Moved {
     pub(crate) retiming: Retiming,

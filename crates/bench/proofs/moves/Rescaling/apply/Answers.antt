@@ -5,7 +5,7 @@ use Rattle.bench.specs.Moves.{lag_fault_at, natural, new_lag}
 use Rattle.bench.proofs.Moving.{record_at, record_more}
 use Rattle.bench.proofs.Outcomes.{unless_err, unless_none, taken, refused}
 use Rattle.bench.proofs.Searches.{first_start, first_found, first_more}
-use Rattle.bench.proofs.moves.Move.apply.Goals as goal
+use Rattle.bench.proofs.moves.Rescaling.apply.Goals as goal
 
 pub loop-node-init : goal.loop-node-init
 loop-node-init c = (refl, first_start _)
