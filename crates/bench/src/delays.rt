@@ -53,7 +53,7 @@ impl Moved {
             self.check_node(number, node)?;
         }
         let output = design.output();
-        if self.retiming.factor * u32::from(output.delay) > MAX_DELAY {
+        if self.retiming.slowed(output.delay) > MAX_DELAY {
             return Err(BenchQuestion::Delay.refused(INPUT, output.node));
         }
         Ok(())
