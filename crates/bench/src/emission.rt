@@ -20,15 +20,14 @@ impl Bench {
     fn line_length(&self, source: usize) -> u16
         ensures { result ≡ line_length self.now.design.graph self.now.retiming source }
     {
-        let mut length = if self.design.output().node == source {
+        let read_out = if self.design.output().node == source {
             self.output_delay()
         } else {
             0
         };
-        for (node, _) in self.design.nodes().iter().enumerate() {
-            length = length.max(self.delay(node, source).unwrap_or(0));
-        }
-        length
+        (0..self.design.count())
+            .filter_map(|node| self.delay(node, source))
+            .fold(read_out, u16::max)
     }
 
     /// The line of one source.
