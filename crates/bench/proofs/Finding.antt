@@ -2,22 +2,21 @@
 use Rattle.std.proofs.Common.{◌≡◌, ℕ, zero, suc, ◌+◌, ◌-◌, ◌<◌, ◌≤◌, Bool, true, false, cond, List, [], ◌∷◌, length, map, take, get_or, IsTrue, IfSome, IsSomeAnd, MatchOption, Some, None, Option, slice_get, sym, refl, ap, ◌∙◌, subst, ⊎_elim, add-zero, zero-add, arith}
 use Rattle.std.specs.Bool.{⊤}
 use Rattle.std.specs.declared.ops.Range.{Range}
-use Rattle.std.specs.declared.iter.Enumerate.{Enumerate}
 use denote.Param.Members.{Mut}
 use denote.Ref.{Bor}
 use Rattle.std.specs.Fn.{Called, CalledAt}
 use Rattle.std.specs.Iterator.{DrainsIf, FindsItem}
-use Rattle.std.specs.Iterator.Adapters.{enumerate_source, enumerate_count, enumerate_steps}
 use Rattle.std.specs.Iterator.Runs.{Run, SomeRun, YieldsRun, AllItemsGive, IsFirstToGive}
 use Rattle.std.proofs.lemmas.Iterator.{YieldsList, YieldsList-from_range, items_from_drains, first_from_Range}
-use Rattle.std.proofs.lemmas.Iterator.Consumers.{YieldsList-so_far, YieldsList-from_enumerate}
+use Rattle.std.proofs.lemmas.Iterator.Consumers.{YieldsList-so_far}
 use Rattle.std.proofs.lemmas.Option.{slice_get_within}
 use Rattle.std.proofs.lemmas.List.{length-take, get_or-take, get_or-map, length-map}
 use Rattle.std.proofs.lemmas.Option.{get_or_from_slice_get}
-use Rattle.std.proofs.lemmas.List.FromFn.{length-range_with_len, get_or-range_with_len, length-enumerate_from, get_or-enumerate_from}
+use Rattle.std.proofs.lemmas.List.FromFn.{length-range_with_len, get_or-range_with_len}
 use Rattle.std.proofs.lemmas.Bool.{cases_lt}
 use Rattle.std.proofs.iter.Yields.{nat_range_steps}
-use Rattle.bench.specs.First.{or_else, first}
+use Rattle.std.specs.Option.{option_or}
+use Rattle.bench.specs.First.{first}
 use Rattle.bench.proofs.Searches.{first_start, first_found, first_all}
 
 some_at : {A : Type 0} (xs : List A) (k : ℕ) → k < length xs → IsSomeAnd (slice_get xs k) (λ _. ⊤)
@@ -86,7 +85,7 @@ module _ {E : Type 0} (q : ℕ → Option E) (a : ℕ) (low : (i : ℕ) → i < 
   first_shifted : (m : ℕ) → first (λ i. q (a + i)) m ≡ first q (a + m)
   unfolding first
   first_shifted zero = sym (ap (first q) (add-zero a) ∙ first_all q a low)
-  first_shifted (suc m) = ap (λ o. or_else o (q (a + m))) (first_shifted m) ∙ ap (first q) {x = suc (a + m)} {y = a + suc m} (omega arith)
+  first_shifted (suc m) = ap (λ o. option_or o (q (a + m))) (first_shifted m) ∙ ap (first q) {x = suc (a + m)} {y = a + suc m} (omega arith)
 
   first_above : (n : ℕ) → first (λ i. q (a + i)) (n - a) ≡ first q n
   first_above n =
@@ -115,22 +114,6 @@ pub first_over_range : {E F : Type 0} {g : Mut F (ℕ × Unit {0}) (Option E)} {
     → ((x : ℕ) (b : Option E) → x < n → Called g f (x, tt) b f → q x ≡ b)
     → r ≡ first q n
 first_over_range q n e run keeps computes = first_above_from q 0 (λ i l. absurd (omega arith)) n e run keeps (λ x b _ l c. computes x b l c)
-
--- the same over `.enumerate()`
-pub first_over_enumerate : {S A B F E : Type 0} {steps : S → Option A → S → Type 0} {v : A → B} {xs : List B} {g : Mut F ((ℕ × A) × Unit {0}) (Option E)} {s : Enumerate S} {f : F} {r : Option E}
-    (q : ℕ → Option E) → YieldsList steps v (enumerate_source s) xs → enumerate_count s ≡ 0
-    → MapsFirst (enumerate_steps steps) g s f r
-    → ((a : (ℕ × A) × Unit {0}) (b : Option E) (h : F) → Called g f a b h → h ≡ f)
-    → ((i : ℕ) (x : A) (b : Option E) → i < length xs → v x ≡ get_or xs i (v x) → Called g f ((i, x), tt) b f → q i ≡ b)
-    → r ≡ first q (length xs)
-first_over_enumerate {A = A} {B = B} {v = v} {xs = xs} q chain zero' run keeps computes =
-    first_from_find_map q run (YieldsList-from_enumerate chain zero') keeps
-    (λ p b i l at c.
-    let m : i < length xs = omega (arith, length-enumerate_from 0 xs) in
-    let is : ◌≡◌ {A = ℕ × B} (p.0, v p.1) (0 + i, get_or xs i (v p.1)) = sym at ∙ get_or-enumerate_from 0 xs i (p.0, v p.1) m in
-    let place : p.0 ≡ i = ap (λ (y : ℕ × B). y.0) is ∙ zero-add i in
-    ap q (sym place) ∙ computes p.0 p.1 b (omega arith) (ap (λ (y : ℕ × B). y.1) is ∙ ap (λ k. get_or xs k (v p.1)) (sym place)) c)
-    ∙ ap (first q) (length-enumerate_from 0 xs)
 
 -- `find` over `0..n`: what f passes, q answers by itself
 pub first_where : {F : Type 0} {g : Mut F (Bor ℕ × Unit {0}) Bool} {s : Range ℕ} {f : F} {r : Option ℕ} (u : Range ℕ) (q : ℕ → Option ℕ) (n : ℕ) → s ≡ record { start = 0; end = n }

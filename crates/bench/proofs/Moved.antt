@@ -11,7 +11,8 @@ use Rattle.words.specs.declared.graph.Graph.{Graph}
 use Rattle.words.specs.Designs.{InRange, node_at, feed_at, sources, max_nodes}
 use Rattle.bench.specs.declared.retiming.NodeRecord.{NodeRecord}
 use Rattle.bench.specs.declared.retiming.Retiming.{Retiming}
-use Rattle.bench.specs.First.{or_else, first}
+use Rattle.std.specs.Option.{option_or}
+use Rattle.bench.specs.First.{first}
 use Rattle.bench.specs.Retimings.{Sound, unlagged, lag_at, source_lag, ahead, max_lag, max_delay, max_factor}
 use Rattle.bench.specs.Moves.{moved, moved_lag, new_record, natural, is_lag, lags_fault, delays_fault, node_fault, feed_fault, output_fault, move_fault, made_fault, slow_fault, is_shift, shifts_fault, lag_fault}
 use Rattle.bench.specs.Refusals.{lag_out, too_slow, wrong_factor, wrong_row, wrong_shift}
@@ -133,7 +134,7 @@ module _ (g : Graph) (p : Retiming) (shifts : List ℤ) where
   unfolding lag_fault
   lag_row ne = cond-false _ _ _ (ne_eqb (length shifts) g.count ne)
 
-  asks_shifts : length shifts ≡ g.count → lag_fault g p shifts ≡ or_else (shifts_fault shifts) (move_fault g p 1 shifts)
+  asks_shifts : length shifts ≡ g.count → lag_fault g p shifts ≡ option_or (shifts_fault shifts) (move_fault g p 1 shifts)
   unfolding lag_fault
   asks_shifts e = cond-true _ _ _ (eq-eqb (length shifts) g.count e)
 

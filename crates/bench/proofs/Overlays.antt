@@ -1,6 +1,6 @@
 -- Laws of a buffer that is written over.
-use Rattle.std.proofs.Common.{◌≡◌, ℕ, ◌+◌, ◌<◌, ◌≤◌, List, [], ◌∷◌, ◌++◌, length, get_or, take, drop, set, is_ok, Ok, Err, Result, sym, ap, ◌∙◌, ⊎_elim, append_assoc, arith}
-use Rattle.std.proofs.lemmas.List.{length-append, length-take-le, length_push, take_at, drop_at, drop-drop, drop_more, set_at}
+use Rattle.std.proofs.Common.{◌≡◌, ℕ, ◌+◌, ◌<◌, ◌≤◌, List, ◌++◌, length, take, drop, is_ok, Ok, Err, Result, sym, ap, ◌∙◌, ⊎_elim, append_assoc, arith}
+use Rattle.std.proofs.lemmas.List.{length-append, length-take-le, take_at, drop_at, drop-drop}
 use borrow.Rule.Slice.PartMut.{put_mid}
 use Rattle.std.proofs.lemmas.Bool.{true≢false, cond-true, cond-false, lt-ltb, le-ltb, cases_lt}
 use Rattle.words.specs.declared.faults.Fault.{Fault}
@@ -14,16 +14,6 @@ module _ {X : Type 0} (b : List X) (at : ℕ) where
 
     front : at ≤ length b → length (take at b ++ xs) ≡ at + length xs
     front l = length-append (take at b) xs ∙ ap (λ n. n + length xs) (length-take-le at b l)
-
-    -- one item more
-    pub overlaid_more : (x : X) → at + length xs < length b → set (overlaid b at xs) (at + length xs) x ≡ overlaid b at (xs ++ x ∷ [])
-    overlaid_more x l =
-        let n : ℕ = at + length xs in
-        let next : n + 1 ≡ at + length (xs ++ x ∷ []) = omega (arith, length_push xs x) in
-        ap (λ l'. set l' n x) (parts ∙ ap (λ rest. (take at b ++ xs) ++ rest) (drop_more b n x l))
-        ∙ set_at (take at b ++ xs) (get_or b n x) (drop (n + 1) b) x n (front (omega arith))
-        ∙ append_assoc (take at b) xs (x ∷ drop (n + 1) b)
-        ∙ ap (λ rest. take at b ++ rest) (sym (append_assoc xs (x ∷ []) (drop (n + 1) b)) ∙ ap (λ m. (xs ++ x ∷ []) ++ drop m b) next)
 
     -- more items after them
     pub overlaid_join : (ys : List X) → at + length xs ≤ length b → overlaid (overlaid b at xs) (at + length xs) ys ≡ overlaid b at (xs ++ ys)
@@ -69,8 +59,3 @@ written_fits items b a n w =
     (λ (l : length b < length items). absurd (true≢false (ap is_ok (w.answer ∙ cond-true _ _ _ (lt-ltb (length b) (length items) l)))))
     (λ (l : length items ≤ length b). l)
     (cases_lt (length b) (length items))
-
--- and the count lies within it
-pub written_count : {X : Type 0} (items b a : List X) (n : ℕ) → Written items b a (Ok n) → n ≤ length b
-written_count items b a n w =
-    let fits = written_fits items b a n w in omega (arith, ok_same n (length items) (written_answer items b a (Ok n) w fits))

@@ -1,17 +1,18 @@
 -- The laws of `first`: what a loop that looks for the lowest place keeps and finds.
 use Rattle.std.proofs.Common.{◌≡◌, ℕ, zero, suc, ◌+◌, ◌<◌, ◌≤◌, is_some, Some, None, Option, sym, refl, ap, ◌∙◌, subst, ⊎_elim, add-one, arith}
 use Rattle.std.proofs.lemmas.Bool.{true≢false, false≢true, cases_eq}
-use Rattle.bench.specs.First.{or_else, first}
+use Rattle.std.specs.Option.{option_or}
+use Rattle.bench.specs.First.{first}
 
-pub or_none : {E : Type 0} (o q : Option E) → or_else o q ≡ None → (o ≡ None) × (q ≡ None)
+pub or_none : {E : Type 0} (o q : Option E) → option_or o q ≡ None → (o ≡ None) × (q ≡ None)
 or_none None q h = (refl, h)
 or_none (Some e) q h = absurd (true≢false (ap is_some h))
 
-pub none_or : {E : Type 0} (o q : Option E) → o ≡ None → or_else o q ≡ q
+pub none_or : {E : Type 0} (o q : Option E) → o ≡ None → option_or o q ≡ q
 none_or None q h = refl
 none_or (Some e) q h = absurd (true≢false (ap is_some h))
 
-pub some_or : {E : Type 0} (o q : Option E) (e : E) → o ≡ Some e → or_else o q ≡ Some e
+pub some_or : {E : Type 0} (o q : Option E) (e : E) → o ≡ Some e → option_or o q ≡ Some e
 some_or None q e h = absurd (false≢true (ap is_some h))
 some_or (Some d) q e h = h
 
@@ -33,9 +34,6 @@ module _ {E : Type 0} (p : ℕ → Option E) where
       (λ (q : i ≡ n). none_or (first p n) (p n) (subst (λ m. first p m ≡ None) q h) ∙ subst (λ m. p m ≡ Some e) q k)
       (λ (q : i ≡ n → ⊥). some_or (first p n) (p n) e (first_found n i e (omega (arith, q)) h k))
       (cases_eq i n)
-
-  pub first_end : (n i : ℕ) → n ≤ i → i ≤ n → first p i ≡ None → first p n ≡ None
-  first_end n i h k e = let q : i ≡ n = omega arith in subst (λ m. first p m ≡ None) q e
 
   -- where nothing is found, there is nothing at any place
   pub first_none : (n i : ℕ) → first p n ≡ None → i < n → p i ≡ None
@@ -59,7 +57,7 @@ module _ {E : Type 0} (p : ℕ → Option E) where
   first_some zero e h = absurd (false≢true (ap is_some h))
   first_some (suc n) e h = by (first p n) refl h (first_some n)
     where
-      by : (o : Option E) → first p n ≡ o → or_else (first p n) (p n) ≡ Some e → ((d : E) → first p n ≡ Some d → (i : ℕ) × (i < n) × (p i ≡ Some d) × (first p i ≡ None)) →
+      by : (o : Option E) → first p n ≡ o → option_or (first p n) (p n) ≡ Some e → ((d : E) → first p n ≡ Some d → (i : ℕ) × (i < n) × (p i ≡ Some d) × (first p i ≡ None)) →
           (i : ℕ) × (i < suc n) × (p i ≡ Some e) × (first p i ≡ None)
       by None q k below = (n, omega arith, sym (none_or (first p n) (p n) q) ∙ k, q)
       by (Some d) q k below = let r = below e (q ∙ sym (some_or (first p n) (p n) d q) ∙ k) in (r.0, omega (arith, r.1), r.2, r.3)
@@ -73,9 +71,9 @@ module _ {E : Type 0} (p : ℕ → Option E) where
       (λ (e : m ≡ suc n). ap (first p) (sym e))
       (λ (ne : m ≡ suc n → ⊥).
       let k : m ≤ n = omega (arith, ne) in
-      ap (λ o. or_else (first p n) o) (h n k (omega arith)) ∙ or_nothing (first p n) ∙ first_extend m n k (λ i a b. h i a (omega arith)))
+      ap (λ o. option_or (first p n) o) (h n k (omega arith)) ∙ or_nothing (first p n) ∙ first_extend m n k (λ i a b. h i a (omega arith)))
       (cases_eq m (suc n))
     where
-      or_nothing : (o : Option E) → or_else o None ≡ o
+      or_nothing : (o : Option E) → option_or o None ≡ o
       or_nothing None = refl
       or_nothing (Some x) = refl

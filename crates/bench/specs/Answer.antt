@@ -1,4 +1,4 @@
--- What the console prints of an input.
+-- What listing the words of an input's bytes answers, and what it leaves in the text buffer.
 use Rattle.std.specs.Prelude.{◌≡◌, ℕ, ◌/◌, ◌%◌, List, length, Some, None, Err, Result, ◌≢◌}
 use Rattle.words.specs.declared.faults.Fault.{Fault}
 use Rattle.words.specs.Bytes.{taken, packed}

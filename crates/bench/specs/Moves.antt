@@ -7,7 +7,8 @@ use Rattle.words.specs.declared.graph.Graph.{Graph}
 use Rattle.words.specs.Designs.{node_at, input, sources, max_nodes}
 use Rattle.bench.specs.declared.retiming.NodeRecord.{NodeRecord}
 use Rattle.bench.specs.declared.retiming.Retiming.{Retiming}
-use Rattle.bench.specs.First.{or_else, first}
+use Rattle.std.specs.Option.{option_or}
+use Rattle.bench.specs.First.{first}
 use Rattle.bench.specs.Retimings.{unlagged, max_factor, max_lag, max_delay, source_lag, ahead, output_delay, order}
 use Rattle.bench.specs.Firing.{place_in}
 use Rattle.bench.specs.Refusals.{wrong_row, wrong_shift, lag_out, delay_out, wrong_factor, too_slow}
@@ -59,11 +60,11 @@ output_fault g p = cond (nat_le (output_delay g p) max_delay) None (Some (delay_
 
 -- 11, over the delays to come: by node and source, the output last
 unfoldable pub delays_fault : Graph → Retiming → Option Fault
-delays_fault g p = or_else (first (λ i. node_fault p i (node_at g i)) g.count) (output_fault g p)
+delays_fault g p = option_or (first (λ i. node_fault p i (node_at g i)) g.count) (output_fault g p)
 
 -- 10 and 11 of what a move makes
 abbrev pub move_fault : Graph → Retiming → ℕ → List ℤ → Option Fault
-move_fault g p factor shifts = or_else (lags_fault g.count (moved_lag p factor shifts)) (delays_fault g (moved p factor shifts))
+move_fault g p factor shifts = option_or (lags_fault g.count (moved_lag p factor shifts)) (delays_fault g (moved p factor shifts))
 
 -- 13, 10 and 11
 unfoldable pub made_fault : Graph → Retiming → ℕ → List ℤ → Option Fault
@@ -85,7 +86,7 @@ shifts_fault shifts = first (λ i. cond (is_shift (slice_index_or shifts i (pos 
 -- lag: 8, 9, 10, 11
 unfoldable pub lag_fault : Graph → Retiming → List ℤ → Option Fault
 lag_fault g p shifts =
-    cond (length shifts == g.count) (or_else (shifts_fault shifts) (move_fault g p 1 shifts)) (Some (wrong_row (length shifts) g.count))
+    cond (length shifts == g.count) (option_or (shifts_fault shifts) (move_fault g p 1 shifts)) (Some (wrong_row (length shifts) g.count))
 
 -- each node's rank: its place in the firing order
 abbrev pub ranks : Graph → Retiming → List ℤ

@@ -62,6 +62,6 @@ impl Bench {
     pub fn output_delay(&self) -> u16
         ensures { result ≡ output_delay self.now.design.graph self.now.retiming }
     {
-        (self.retiming.factor * u32::from(self.design.output().delay)) as u16
+        self.retiming.slowed(self.design.output().delay) as u16
     }
 }

@@ -8,7 +8,7 @@ use crate::bench::Bench;
 use words::faults::Fault;
 
 /// A call that moves a bench.
-#[derive(Clone, Copy)]
+#[derive(Clone, Copy, PartialEq, Eq, Debug)]
 pub enum Call<'a> {
     Lag { shifts: &'a [i32] },
     Slow { factor: u32 },
@@ -16,8 +16,8 @@ pub enum Call<'a> {
 }
 
 impl Bench {
-    /// Makes one call.
-    fn make(&mut self, call: &Call<'_>) -> Result<(), Fault>
+    /// Makes one call. A refused call changes nothing.
+    pub fn make(&mut self, call: &Call<'_>) -> Result<(), Fault>
         ensures answer { result ≡ unless (call_fault self.old.design.graph self.old.retiming call.now) tt }
         ensures design { self.new.design ≡ self.old.design }
         ensures retiming { self.new.retiming ≡ after self.old.design.graph self.old.retiming call.now }

@@ -10,7 +10,7 @@ use words::design::Design;
 use words::faults::{BenchQuestion, Fault, Question};
 use words::graph::{INPUT, Node};
 
-/// What a move makes of a retiming, before its delays are asked about.
+/// What a rescaling makes of a retiming, before its delays are asked about.
 #[derive(Clone, Copy)]
 pub(crate) struct Moved {
     pub(crate) retiming: Retiming,
@@ -53,7 +53,7 @@ impl Moved {
             self.check_node(number, node)?;
         }
         let output = design.output();
-        if self.retiming.factor * u32::from(output.delay) > MAX_DELAY {
+        if self.retiming.slowed(output.delay) > MAX_DELAY {
             return Err(BenchQuestion::Delay.refused(INPUT, output.node));
         }
         Ok(())

@@ -20,17 +20,17 @@ impl Bench {
     fn line_length(&self, source: usize) -> u16
         ensures { result ≡ line_length self.now.design.graph self.now.retiming source }
     {
-        let mut length = if self.design.output().node == source {
+        let read_out = if self.design.output().node == source {
             self.output_delay()
         } else {
             0
         };
-        for (node, _) in self.design.nodes().iter().enumerate() {
-            length = length.max(self.delay(node, source).unwrap_or(0));
-        }
-        length
+        (0..self.design.count())
+            .filter_map(|node| self.delay(node, source))
+            .fold(read_out, u16::max)
     }
 
+    /// The line of one source.
     fn put_line(&self, source: usize, program: &mut ProgramWords)
         requires source { source < 33 }
         requires room { array_vec_len program.old < 1124 }
@@ -51,6 +51,7 @@ impl Bench {
         self.put_line(INPUT, program);
     }
 
+    /// The taps of one node, by source.
     fn put_taps(&self, node: usize, program: &mut ProgramWords)
         requires { array_vec_len program.old + 33 ≤ 1124 }
         ensures { program.new.items ≡ program.old.items ++ taps self.now.design.graph self.now.retiming node 33 }
@@ -62,6 +63,7 @@ impl Bench {
         }
     }
 
+    /// The cell of one node, then its taps.
     fn put_cell(&self, node: usize, program: &mut ProgramWords)
         requires room { array_vec_len program.old + 34 ≤ 1124 }
         requires node { node < self.now.design.graph.count }
@@ -79,8 +81,8 @@ impl Bench {
         ensures { program.new.items ≡ program.old.items ++ cells self.now.design.graph self.now.retiming self.now.design.graph.count }
     {
         let order = self.order();
-        for node in order.nodes() {
-            self.put_cell(usize::from(*node), program);
+        for &node in order.nodes() {
+            self.put_cell(usize::from(node), program);
         }
     }
 

@@ -1,7 +1,7 @@
 //! The firing order: next is always the lowest-numbered unlisted node whose feeds of current delay 0 from nodes are all listed.
 
-ghost use Rattle.std.specs.Prelude.{◌≡◌, ◌<◌, false};
-ghost use Rattle.bench.specs.Firing.{has, held_by, next};
+ghost use Rattle.std.specs.Prelude.{◌≡◌, ◌<◌, is_some};
+ghost use Rattle.bench.specs.Firing.{held_by, ready, next};
 ghost use Rattle.bench.specs.Orders.{Fires, Ranked};
 ghost use Rattle.bench.specs.Retimings.{waits, order, at_rest};
 ghost use Rattle.words.specs.Designs.{feed_at};
@@ -19,12 +19,18 @@ impl Retimed<'_> {
             && order.rank_of(source).is_none())
     }
 
+    /// Whether a node may be listed next: it is unlisted, and no unlisted node holds it.
+    fn is_free(&self, order: &Order, node: usize) -> bool
+        ensures { result ≡ is_some (ready self.now.design.now.graph.count (waits self.now.design.now.graph self.now.retiming) order.now node) }
+    {
+        order.rank_of(node).is_none() && self.held_by(order, node).is_none()
+    }
+
     /// The node to be listed next, if there is one.
     fn next(&self, order: &Order) -> Option<usize>
         ensures { result ≡ next self.now.design.now.graph.count (waits self.now.design.now.graph self.now.retiming) order.now }
     {
-        (0..self.design.count()).find(|&node| order.rank_of(node).is_none()
-            && self.held_by(order, node).is_none())
+        (0..self.design.count()).find(|&node| self.is_free(order, node))
     }
 
     /// The firing order.

@@ -5,10 +5,10 @@ ghost use Rattle.words.specs.Encoding.{encoded};
 ghost use Rattle.bench.specs.Buffers.{Written};
 ghost use Rattle.bench.specs.Listing.{digit, line_of, listed};
 
-use crate::writer::{design_words, short_buffer};
+use crate::writer::design_words;
 use std::array;
 use words::design::Design;
-use words::faults::Fault;
+use words::faults::{BenchQuestion, Fault, Question};
 
 /// How many bytes a word's line has: eight digits and the line's end.
 const LINE: usize = 9;
@@ -34,14 +34,14 @@ fn line_of(word: u32) -> [u8; LINE]
     })
 }
 
-/// Lists words to the front of `text`, and answers how many bytes there are.
+/// Lists words to the front of `text`, and answers how many bytes there are: question 14.
 pub(crate) fn list_words(words: &[u32], text: &mut [u8]) -> Result<usize, Fault>
     requires { length words.now ≤ 2048 }
     ensures { Written (listed words.now) text.old text.new result }
 {
     let needed = words.len() * LINE;
     if text.len() < needed {
-        return Err(short_buffer(text.len(), needed));
+        return Err(BenchQuestion::Buffer.refused(text.len(), needed));
     }
     for (k, word) in words.iter().enumerate() {
         text[k * LINE..(k + 1) * LINE].copy_from_slice(&line_of(*word));

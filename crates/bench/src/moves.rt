@@ -16,9 +16,9 @@ use std::array;
 use words::faults::{BenchQuestion, Fault, Question};
 use words::graph::MAX_NODES;
 
-/// A move: K and every lag are multiplied by a factor, and then a row of shifts is added to the lags.
+/// A factor for K and every lag, and then a row of shifts for the lags.
 #[derive(Clone, Copy)]
-struct Move<'a> {
+struct Rescaling<'a> {
     factor: u32,
     shifts: &'a [i32],
     ghost positive: { 1 ≤ factor },
@@ -26,16 +26,16 @@ struct Move<'a> {
     ghost fits: { (i : ℕ) → is_shift (slice_index_or shifts.now i (pos 0)) ≡ true },
 }
 
-impl<'a> Move<'a> {
-    /// The move that shifts the lags: question 9.
-    fn shifting(shifts: &'a [i32]) -> Result<Move<'a>, Fault>
+impl<'a> Rescaling<'a> {
+    /// A row of shifts by itself: question 9.
+    fn shifting(shifts: &'a [i32]) -> Result<Rescaling<'a>, Fault>
         ensures made { IfOk result (λ m. (m.factor ≡ 1) × (m.shifts.now ≡ shifts.now)) }
         ensures asked { MatchResult result (λ m. shifts_fault shifts.now ≡ None) (λ f. shifts_fault shifts.now ≡ Some f) }
     {
         if let Some(index) = wrong_shift(shifts) {
             return Err(BenchQuestion::Shift.refused(index, 0));
         }
-        Ok(Move { factor: 1, shifts })
+        Ok(Rescaling { factor: 1, shifts })
     }
 
     /// A node's shift; none is given past the row.
@@ -68,7 +68,7 @@ fn wrong_shift(shifts: &[i32]) -> Option<usize>
 
 impl NodeRecord {
     /// Multiplies the lag by the factor and adds the node's shift: question 10 of that node. A refused record stays.
-    fn retime(&mut self, by: &Move<'_>, node: usize) -> Result<(), Fault>
+    fn retime(&mut self, by: &Rescaling<'_>, node: usize) -> Result<(), Fault>
         ensures answer { result ≡ unless (lag_fault_at (pos (self.old.lag * by.now.factor) +ℤ slice_index_or by.now.shifts.now node (pos 0)) node) tt }
         ensures state { self.new ≡ unless_kept (lag_fault_at (pos (self.old.lag * by.now.factor) +ℤ slice_index_or by.now.shifts.now node (pos 0)) node) (record { lag = natural (pos (self.old.lag * by.now.factor) +ℤ slice_index_or by.now.shifts.now node (pos 0)) }) self.old }
     {
@@ -84,8 +84,8 @@ impl NodeRecord {
 }
 
 impl Bench {
-    /// What a move makes of the retiming: questions 13 and 10.
-    fn moved(&self, by: &Move<'_>) -> Result<Moved, Fault>
+    /// What a rescaling makes of the retiming: questions 13 and 10.
+    fn moved(&self, by: &Rescaling<'_>) -> Result<Moved, Fault>
         requires few { length by.now.shifts.now ≤ self.now.design.graph.count }
         ensures made { IfOk result (λ m. m.retiming ≡ moved self.now.retiming by.now.factor by.now.shifts.now) }
         ensures asked { MatchResult result (λ m. made_fault self.now.design.graph self.now.retiming by.now.factor by.now.shifts.now ≡ delays_fault self.now.design.graph m.retiming) (λ f. made_fault self.now.design.graph self.now.retiming by.now.factor by.now.shifts.now ≡ Some f) }
@@ -94,18 +94,21 @@ impl Bench {
             factor,
             mut records,
         } = self.retiming;
-        if factor * by.factor > MAX_FACTOR {
+        let slowed = factor * by.factor;
+        if slowed > MAX_FACTOR {
             return Err(BenchQuestion::Slowdown.refused(factor as usize, by.factor as usize));
         }
         by.apply(&mut records)?;
-        let factor = factor * by.factor;
         Ok(Moved {
-            retiming: Retiming { factor, records },
+            retiming: Retiming {
+                factor: slowed,
+                records,
+            },
         })
     }
 
-    /// Makes a move: questions 13, 10 and 11.
-    fn make_move(&mut self, by: &Move<'_>) -> Result<(), Fault>
+    /// Rescales the retiming: questions 13, 10 and 11.
+    fn rescale(&mut self, by: &Rescaling<'_>) -> Result<(), Fault>
         requires few { length by.now.shifts.now ≤ self.old.design.graph.count }
         ensures answer { result ≡ unless (made_fault self.old.design.graph self.old.retiming by.now.factor by.now.shifts.now) tt }
         ensures design { self.new.design ≡ self.old.design }
@@ -126,7 +129,7 @@ impl Bench {
         if !(1..=MAX_FACTOR).contains(&factor) {
             return Err(BenchQuestion::Factor.refused(factor as usize, 0));
         }
-        self.make_move(&Move {
+        self.rescale(&Rescaling {
             factor,
             shifts: &[],
         })
@@ -142,7 +145,7 @@ impl Bench {
         if shifts.len() != count {
             return Err(BenchQuestion::Row.refused(shifts.len(), count));
         }
-        self.make_move(&Move::shifting(shifts)?)
+        self.rescale(&Rescaling::shifting(shifts)?)
     }
 
     /// Slows by n, then lags by the ranks that stood before: questions 13, 10 and 11 of the result. A refused call changes nothing; a settled bench is systolic.
@@ -154,7 +157,7 @@ impl Bench {
     {
         let count = self.design.count();
         let ranks = self.order().ranks_by_node();
-        self.make_move(&Move {
+        self.rescale(&Rescaling {
             factor: count as u32,
             shifts: &ranks[0..count],
         })

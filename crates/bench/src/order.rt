@@ -40,10 +40,10 @@ impl Order {
     pub fn rank_of(&self, node: usize) -> Option<u8>
         ensures { result ≡ rank_of self.now node }
     {
-        let rank = self.nodes[..self.count]
+        self.nodes[..self.count]
             .iter()
-            .position(|&listed| usize::from(listed) == node)?;
-        Some(rank as u8)
+            .position(|&listed| usize::from(listed) == node)
+            .map(|rank| rank as u8)
     }
 
     /// No node listed.

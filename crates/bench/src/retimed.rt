@@ -1,6 +1,6 @@
 //! A design under a retiming: its current delays.
 
-ghost use Rattle.std.specs.Prelude.{◌≡◌, ◌^◌, ◌<◌, ◌≤◌};
+ghost use Rattle.std.specs.Prelude.{◌≡◌, ◌*◌, ◌^◌, ◌<◌, ◌≤◌};
 ghost use Rattle.bench.specs.Retimings.{Sound, waits, at_rest, ahead, current_delay, lag_at, source_lag, max_factor};
 
 use crate::retiming::{NodeRecord, Retiming};
@@ -60,11 +60,19 @@ impl Retiming {
             .map_or(0, |record| u32::from(record.lag))
     }
 
+    /// A design's delay at K.
+    pub(crate) fn slowed(&self, delay: u8) -> u32
+        requires { self.now.factor ≤ max_factor }
+        ensures { result ≡ self.now.factor * delay }
+    {
+        self.factor * u32::from(delay)
+    }
+
     /// The current delay at a node of a feed with that delay, from a source that does not lag.
     pub(crate) fn ahead(&self, node: usize, delay: u8) -> u32
         requires { self.now.factor ≤ max_factor }
         ensures { result ≡ ahead self.now node delay }
     {
-        self.factor * u32::from(delay) + self.lag(node)
+        self.slowed(delay) + self.lag(node)
     }
 }

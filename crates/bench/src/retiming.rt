@@ -12,13 +12,13 @@ pub const MAX_LAG: u32 = 4095;
 pub const MAX_DELAY: u32 = 4095;
 
 /// What the bench keeps of one node: by how many cycles it lags.
-#[derive(Clone, Copy)]
+#[derive(Clone, Copy, PartialEq, Eq, Debug)]
 pub struct NodeRecord {
     pub lag: u16,
 }
 
 /// How a design is slowed and lagged: K, and a record for each node. `Bench` holds it to its ranges.
-#[derive(Clone, Copy)]
+#[derive(Clone, Copy, PartialEq, Eq, Debug)]
 pub struct Retiming {
     pub factor: u32,
     pub records: [NodeRecord; MAX_NODES],

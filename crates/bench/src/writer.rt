@@ -4,7 +4,6 @@ ghost use Rattle.std.specs.Prelude.{◌≡◌, ◌+◌, ◌<◌, ◌≤◌, ◌�
 ghost use Rattle.arrayvec.specs.ArrayVec.{array_vec_len};
 ghost use Rattle.words.specs.Encoding.{encoded, node_word, feed_words};
 ghost use Rattle.bench.specs.Buffers.{Written};
-ghost use Rattle.bench.specs.Refusals.{too_short};
 
 use crate::encode::WordKind;
 use arrayvec::ArrayVec;
@@ -19,20 +18,13 @@ const MAX_DESIGN_WORDS: usize = 1091;
 /// The words of a design, as far as they are made.
 pub(crate) type DesignWords = ArrayVec<u32, MAX_DESIGN_WORDS>;
 
-/// Question 14: is the buffer long enough?
-pub(crate) fn short_buffer(given: usize, needed: usize) -> Fault
-    ensures { result ≡ too_short given needed }
-{
-    BenchQuestion::Buffer.refused(given, needed)
-}
-
-/// Writes words to the front of a buffer, and answers how many there are.
+/// Writes words to the front of a buffer, and answers how many there are: question 14.
 pub(crate) fn write_words(from: &[u32], words: &mut [u32]) -> Result<usize, Fault>
     ensures { Written from.now words.old words.new result }
 {
     let needed = from.len();
     if words.len() < needed {
-        return Err(short_buffer(words.len(), needed));
+        return Err(BenchQuestion::Buffer.refused(words.len(), needed));
     }
     words[..needed].copy_from_slice(from);
     Ok(needed)

@@ -94,7 +94,7 @@ fn print_moves<R: AllocGlobal + Print>(
 ) -> anyhow::Result<()> {
     println!(rt; "ok")?;
     for text in moves.split_terminator(';') {
-        match Move::parse(rt.alloc(), text)?.make(&mut bench) {
+        match bench.make(&Move::parse(rt.alloc(), text)?.call()) {
             Ok(()) => println!(rt; "ok")?,
             Err(fault) => println!(rt; "{fault}")?,
         }

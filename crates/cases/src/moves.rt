@@ -1,16 +1,13 @@
 //! The moves of a case.
 
-ghost use Rattle.std.specs.Prelude.{◌≡◌};
-ghost use Rattle.bench.specs.Refusals.{unless, unless_kept};
-ghost use Rattle.cases.specs.Moves.{move_fault, retimed};
+ghost use Rattle.cases.specs.Moves.{Lends};
 
 use crate::rows::parse_row;
 use anyhow::bail;
-use bench::bench::Bench;
+use bench::calls::Call;
 use std::alloc::Global;
-use words::faults::Fault;
 
-/// A move of a bench.
+/// A move of a bench, as a line has it.
 #[derive(Drop)]
 pub enum Move {
     Lag(Vec<i32>),
@@ -29,16 +26,14 @@ impl Move {
         }
     }
 
-    /// Makes the move on a bench. A refused move changes nothing.
-    pub fn make(&self, bench: &mut Bench) -> Result<(), Fault>
-        ensures answer { result ≡ unless (move_fault bench.old.design.graph bench.old.retiming self.now) tt }
-        ensures design { bench.new.design ≡ bench.old.design }
-        ensures retiming { bench.new.retiming ≡ unless_kept (move_fault bench.old.design.graph bench.old.retiming self.now) (retimed bench.old.design.graph bench.old.retiming self.now) bench.old.retiming }
+    /// The call of a bench that makes the move, with its row lent.
+    pub fn call(&self) -> Call<'_>
+        ensures { Lends self.now result }
     {
         match self {
-            Move::Lag(shifts) => bench.lag(shifts),
-            Move::Slow(factor) => bench.slow(*factor),
-            Move::Settle => bench.settle(),
+            Move::Lag(shifts) => Call::Lag { shifts },
+            Move::Slow(factor) => Call::Slow { factor: *factor },
+            Move::Settle => Call::Settle,
         }
     }
 }

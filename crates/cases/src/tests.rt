@@ -12,15 +12,15 @@ const DESIGN_E: &str = "10000002 20000000 30000040 30000001 20000021 30000020 40
 fn moves_are_read_and_made(rt: HostRuntime) -> Result<(), Fail> {
     let design = parse_design(rt.alloc(), DESIGN_E)?;
     let mut bench = Bench::open(&design, &mut [0; MAX_NODES])?;
-    Move::parse(rt.alloc(), "lag 1 0")?.make(&mut bench)?;
-    Move::parse(rt.alloc(), "slow 3")?.make(&mut bench)?;
+    bench.make(&Move::parse(rt.alloc(), "lag 1 0")?.call())?;
+    bench.make(&Move::parse(rt.alloc(), "slow 3")?.call())?;
     assert!(rt; bench.timing() == (3, 3));
     assert!(rt;
-        Move::parse(rt.alloc(), "slow 65")?
-            .make(&mut bench)
+        bench
+            .make(&Move::parse(rt.alloc(), "slow 65")?.call())
             .is_err()
     );
-    Move::parse(rt.alloc(), "settle")?.make(&mut bench)?;
+    bench.make(&Move::parse(rt.alloc(), "settle")?.call())?;
     assert!(rt; bench.timing() == (6, 6));
     Ok(())
 }

@@ -50,7 +50,7 @@ impl Case<'_> {
             .ok()
             .context("a design is not opened")?;
         for text in self.moves.split_terminator(';') {
-            let answer = Move::parse(alloc, text)?.make(&mut bench);
+            let answer = bench.make(&Move::parse(alloc, text)?.call());
             answer.ok().context("a move is refused")?;
         }
         Ok(bench)

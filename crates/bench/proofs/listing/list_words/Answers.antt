@@ -13,7 +13,7 @@ returns-then-text-needed c =
     let long = listed_length c.args.words.now in
     let yes' = lt-ltb (length c.args.text.now) (length (listed c.args.words.now)) (omega (arith, c.if-text-needed.true)) in
     record {
-      answer = ap Err (c.short_buffer.ensures ∙ ap (too_short (length c.args.text.now)) (sym long)) ∙ sym (cond-true _ _ _ yes');
+      answer = ap Err (c.refused.ensures ∙ ap (too_short (length c.args.text.now)) (sym long)) ∙ sym (cond-true _ _ _ yes');
       buffer = sym (cond-true _ _ _ yes');
     }
 

@@ -35,7 +35,7 @@ returns c =
     let h = lag_made g p shifts (omega (arith, c.if-shifts-count.false, c.count-count.ensures)) c.in_ok-shifting.ensures.asked (sound g p c.args.self.now.sound).slow in
     let same = ap₂ (λ n l. made_fault g p n l) by.0 by.1 ∙ sym h in
     record {
-      answer = c.make_move.ensures.answer ∙ ap (λ o. unless o tt) same;
-      design = c.make_move.ensures.design;
-      retiming = c.make_move.ensures.retiming ∙ ap₂ (λ o q. unless_kept o q p) same (ap₂ (λ n l. moved p n l) by.0 by.1);
+      answer = c.rescale.ensures.answer ∙ ap (λ o. unless o tt) same;
+      design = c.rescale.ensures.design;
+      retiming = c.rescale.ensures.retiming ∙ ap₂ (λ o q. unless_kept o q p) same (ap₂ (λ n l. moved p n l) by.0 by.1);
     }

@@ -9,9 +9,9 @@ use Rattle.bench.proofs.Outcomes.{unless_err, unless_none, failed}
 use Rattle.bench.proofs.Soundness.{sound}
 use Rattle.bench.proofs.bench.Bench.moved.Goals as goal
 
-pub returns-then-factor-by-gt-MAX_FACTOR-clause-asked : goal.returns-then-factor-by-gt-MAX_FACTOR-clause-asked
-returns-then-factor-by-gt-MAX_FACTOR-clause-asked c =
-    made_slow c.args.self.now.design.graph c.args.self.now.retiming c.args.by.now.factor c.args.by.now.shifts.now c.if-factor-by-gt-MAX_FACTOR.true ∙ ap Some (sym c.refused.ensures)
+pub returns-then-slowed-gt-MAX_FACTOR-clause-asked : goal.returns-then-slowed-gt-MAX_FACTOR-clause-asked
+returns-then-slowed-gt-MAX_FACTOR-clause-asked c =
+    made_slow c.args.self.now.design.graph c.args.self.now.retiming c.args.by.now.factor c.args.by.now.shifts.now c.if-slowed-gt-MAX_FACTOR.true ∙ ap Some (sym c.refused.ensures)
 
 pub returns-in_err-apply-clause-asked : goal.returns-in_err-apply-clause-asked
 returns-in_err-apply-clause-asked c =
@@ -22,7 +22,7 @@ returns-in_err-apply-clause-asked c =
     let f : Fault = c.in_err-apply.field-0.0 in
     let all = lags_table p factor shifts g (ranges g c.args.self.now.design.sound) (sound g p c.args.self.now.sound) c.requires.few in
     failed c.from_residual.result _ _ f c.from_residual.ensures.1
-    (made_lags g p factor shifts c.if-factor-by-gt-MAX_FACTOR.false f (sym all ∙ unless_err _ tt f c.in_err-apply.ensures.answer))
+    (made_lags g p factor shifts c.if-slowed-gt-MAX_FACTOR.false f (sym all ∙ unless_err _ tt f c.in_err-apply.ensures.answer))
 
 pub returns : goal.returns
 returns c =
@@ -35,5 +35,5 @@ returns c =
     let made = moved_by p factor shifts c.apply.new.records s.table (c.in_ok-apply.ensures.state refl) in
     record {
       made = made;
-      asked = made_delays g p factor shifts c.if-factor-by-gt-MAX_FACTOR.false (sym all ∙ unless_none _ tt c.in_ok-apply.field-0 c.in_ok-apply.ensures.answer) ∙ ap (delays_fault g) (sym made);
+      asked = made_delays g p factor shifts c.if-slowed-gt-MAX_FACTOR.false (sym all ∙ unless_none _ tt c.in_ok-apply.field-0 c.in_ok-apply.ensures.answer) ∙ ap (delays_fault g) (sym made);
     }

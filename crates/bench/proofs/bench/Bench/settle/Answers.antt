@@ -33,8 +33,8 @@ ranks_by_node-ranks-requires c =
     let fires = c.order.ensures.fires in
     record { few = omega (arith, fires.whole, (ranges c.args.self.now.design.graph c.args.self.now.design.sound).few); whole = λ i l. fires.every i (omega (arith, fires.whole)) }
 
-pub invariant_of-make_move : goal.invariant_of-make_move
-invariant_of-make_move c =
+pub invariant_of-rescale : goal.invariant_of-rescale
+invariant_of-rescale c =
     let g : Graph = c.args.self.now.design.graph in
     let p : Retiming = c.args.self.now.retiming in
     let r = ranges g c.args.self.now.design.sound in
@@ -58,12 +58,12 @@ returns c =
     c.ranks_by_node-ranks.result c.count-count.result c.count-count.ensures c.ranks_by_node-ranks.ensures.ranks in
     let few = (ranges g c.args.self.now.design.sound).few in
     let s = sound g p c.args.self.now.sound in
-    let answer = c.make_move.ensures.answer ∙ ap₂ (λ n l. unless (made_fault g p n l) tt) c.count-count.ensures row' in
-    let retiming = c.make_move.ensures.retiming ∙ ap₂ (λ n l. unless_kept (made_fault g p n l) (moved p n l) p) c.count-count.ensures row' in
-    let end = subst (λ (d : Design). Sound d.graph c.make_move.new.self.retiming) c.make_move.ensures.design (sound _ _ c.make_move.new.self.sound) in
+    let answer = c.rescale.ensures.answer ∙ ap₂ (λ n l. unless (made_fault g p n l) tt) c.count-count.ensures row' in
+    let retiming = c.rescale.ensures.retiming ∙ ap₂ (λ n l. unless_kept (made_fault g p n l) (moved p n l) p) c.count-count.ensures row' in
+    let end = subst (λ (d : Design). Sound d.graph c.rescale.new.self.retiming) c.rescale.ensures.design (sound _ _ c.rescale.new.self.sound) in
     record {
       answer = answer;
-      design = c.make_move.ensures.design;
+      design = c.rescale.ensures.design;
       retiming = retiming;
-      systolic = λ ok. accepted g few p s (fires_order g few p s c.args.self.now.ordered) c.make_move.new.self.retiming end (sym answer ∙ ok) retiming;
+      systolic = λ ok. accepted g few p s (fires_order g few p s c.args.self.now.ordered) c.rescale.new.self.retiming end (sym answer ∙ ok) retiming;
     }

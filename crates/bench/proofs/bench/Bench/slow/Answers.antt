@@ -15,7 +15,7 @@ pub returns : goal.returns
 returns c =
     let h = slow_made c.args.self.now.design.graph c.args.self.now.retiming c.args.factor (search rules) in
     record {
-      answer = c.make_move.ensures.answer ∙ ap (λ o. unless o tt) (sym h);
-      design = c.make_move.ensures.design;
-      retiming = c.make_move.ensures.retiming ∙ ap (λ o. unless_kept o (moved c.args.self.now.retiming c.args.factor []) c.args.self.now.retiming) (sym h);
+      answer = c.rescale.ensures.answer ∙ ap (λ o. unless o tt) (sym h);
+      design = c.rescale.ensures.design;
+      retiming = c.rescale.ensures.retiming ∙ ap (λ o. unless_kept o (moved c.args.self.now.retiming c.args.factor []) c.args.self.now.retiming) (sym h);
     }

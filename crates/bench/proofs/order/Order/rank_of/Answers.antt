@@ -11,19 +11,16 @@ found c =
     position_from_yields_List (λ x. x == c.args.node) _ _ _ c.position.ensures.ran (YieldsList-from_slice c.args.self.now (search rules)) (λ x b q k. search (rules, tests))
     ∙ rank_first c.args.node c.args.self.now
 
-pub returns-in_err-rank : goal.returns-in_err-rank
-returns-in_err-rank c = c.from_residual.ensures ∙ sym c.in_err-rank.was ∙ found (goal.at.returns-in_err-rank c).After-position
-
-pub overflow_cast-result : goal.overflow_cast-result
-overflow_cast-result c =
+pub map-requires : goal.map-requires
+map-requires c = λ x is _ _.
     let few = kept_count c.self.inside.nodes c.self.inside.count c.self.invariant in
     omega (
       arith,
       few,
       ap length c.self.view_is,
       c.self.invariant.few,
-      rank_is c.args.self.now c.args.node c.in_ok-rank.rank (sym (found (goal.at.overflow_cast-result c).After-position) ∙ c.in_ok-rank.was),
+      rank_is c.args.self.now c.args.node x (sym (found (goal.at.map-requires c).After-position) ∙ is),
     )
 
 pub returns : goal.returns
-returns c = sym c.in_ok-rank.was ∙ found (goal.at.returns c).After-position
+returns c = let e = found (goal.at.returns c).After-position in search rules

@@ -1,6 +1,6 @@
 use Rattle.std.proofs.Common.{Some, sym, ap, ◌∙◌}
 use Rattle.bench.proofs.Moved.{shifts_some, shifts_fit, shifts_none}
-use Rattle.bench.proofs.moves.Move.shifting.Goals as goal
+use Rattle.bench.proofs.moves.Rescaling.shifting.Goals as goal
 
 pub returns-in-Some-clause-asked : goal.returns-in-Some-clause-asked
 returns-in-Some-clause-asked c = shifts_some c.args.shifts.now c.in-Some.index (sym c.in-Some.is ∙ c.wrong_shift.ensures) ∙ ap Some (sym c.refused.ensures)

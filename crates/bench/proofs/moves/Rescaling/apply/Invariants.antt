@@ -1,7 +1,7 @@
 use Rattle.std.proofs.Common.{◌≡◌, ◌++◌, map, drop, None}
 use Rattle.std.specs.List.{range_with_len}
 use Rattle.bench.specs.Moves.{new_lag, new_record, lags_fault}
-use Rattle.bench.proofs.moves.Move.apply.Given as goal
+use Rattle.bench.proofs.moves.Rescaling.apply.Given as goal
 
 -- the records so far are moved, and none was out of range
 abbrev pub invariant-loop-node : goal.invariant-loop-node

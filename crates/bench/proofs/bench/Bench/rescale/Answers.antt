@@ -6,7 +6,7 @@ use Rattle.bench.specs.Retimings.{Sound}
 use Rattle.bench.proofs.Moved.{sound_moved}
 use Rattle.bench.proofs.Outcomes.{unless_none}
 use Rattle.bench.proofs.Soundness.{sound}
-use Rattle.bench.proofs.bench.Bench.make_move.Goals as goal
+use Rattle.bench.proofs.bench.Bench.rescale.Goals as goal
 
 pub invariant_of-self : goal.invariant_of-self
 invariant_of-self c =

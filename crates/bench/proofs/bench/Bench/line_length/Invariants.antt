@@ -1,6 +1,0 @@
-use Rattle.std.proofs.Common.{◌≡◌}
-use Rattle.bench.specs.Programs.{reach}
-use Rattle.bench.proofs.bench.Bench.line_length.Given as goal
-
-abbrev pub invariant-loop-node : goal.invariant-loop-node
-invariant-loop-node l = l.length ≡ reach l.self.design.graph l.self.retiming l.source l.node
