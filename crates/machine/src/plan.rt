@@ -37,8 +37,8 @@ impl Cell {
 
 /// The nodes of a design in the order in which they fire. Each is one of them, and its taps hear them or the input.
 #[derive(Drop)]
-pub struct Plan {
-    pub cells: ArrayVec<Cell, MAX_NODES>,
+pub(crate) struct Plan {
+    pub(crate) cells: ArrayVec<Cell, MAX_NODES>,
     ghost ready: { (k : ℕ) (d : Cell) → k < array_vec_len cells → Ready (array_vec_len cells) (slice_index_or cells.items k d) },
 }
 
