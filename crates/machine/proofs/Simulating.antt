@@ -1,18 +1,13 @@
 -- A whole simulation.
-use Rattle.std.proofs.Common.{◌≡◌, ℕ, ◌-◌, ◌<◌, List, sym, ap, ◌∙◌, inl, ⊎_elim, arith}
+use Rattle.std.proofs.Common.{◌≡◌, ℕ, ◌-◌, ◌<◌, List, sym, ap, ◌∙◌, inl, arith}
 use Rattle.words.specs.declared.graph.Graph.{Graph}
 use Rattle.words.specs.Designs.{InRange, node_at, feed_at}
-use Rattle.bench.specs.Firing.{place_in}
 use Rattle.bench.specs.Orders.{Ranked}
 use Rattle.cells.specs.Meaning.{Meaning, applied}
 use Rattle.machine.specs.Values.{past, heard, Solves, SolvesBefore, output}
 use Rattle.machine.specs.Buffers.{value_in}
 use Rattle.machine.specs.Simulation.{Filled}
 use Rattle.machine.proofs.Histories.{past_alike, given_node, operands_alike}
-
--- nothing is filled at first
-pub filled_none : {E : Type 0} (n : ℕ) (order : List ℕ) (v : ℕ → ℕ → E) (h : List E) (d : E) → Filled n order v h d 0 0
-filled_none n order v h d i s li when = absurd (⊎_elim (λ (l : s < 0). omega arith) (λ (p : (s ≡ 0) × (place_in order i < 0)). omega (arith, p.1)) when)
 
 module _ {E A : Type 0} (g : Graph) (range : InRange g) (order : List ℕ) (m : Meaning E A) (rest x : ℕ → E)
     (v : ℕ → ℕ → E) (h : List E) (d : E) (T : ℕ) (filled : Filled g.count order v h d T 0) where

@@ -3,7 +3,7 @@
 
 mod firing;
 mod moment;
-pub mod plan;
+mod plan;
 pub mod simulator;
 pub mod tap;
 pub mod values;

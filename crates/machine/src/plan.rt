@@ -12,7 +12,7 @@ use crate::tap::{Cell, Tap};
 use arrayvec::ArrayVec;
 use bench::bench::Bench;
 use words::design::Design;
-use words::graph::{MAX_NODES, SOURCES};
+use words::graph::{MAX_NODES, Node};
 
 impl Cell {
     /// A node of a design, with its taps.
@@ -20,16 +20,17 @@ impl Cell {
         requires { node < design.now.graph.count }
         ensures { Planned design.now.graph node result }
     {
+        let Node { operation, feeds } = design.nodes()[node];
         let mut taps = ArrayVec::new();
-        for source in 0..SOURCES {
-            if let Some(delay) = design.feed(node, source) {
+        for (source, feed) in feeds.iter().enumerate() {
+            if let Some(delay) = *feed {
                 let source = source as u8;
                 taps.push(Tap { source, delay });
             }
         }
         Cell {
             node,
-            operation: design.operation(node).unwrap_or(0),
+            operation,
             taps,
         }
     }
@@ -37,8 +38,8 @@ impl Cell {
 
 /// The nodes of a design in the order in which they fire. Each is one of them, and its taps hear them or the input.
 #[derive(Drop)]
-pub struct Plan {
-    pub cells: ArrayVec<Cell, MAX_NODES>,
+pub(crate) struct Plan {
+    pub(crate) cells: ArrayVec<Cell, MAX_NODES>,
     ghost ready: { (k : ℕ) (d : Cell) → k < array_vec_len cells → Ready (array_vec_len cells) (slice_index_or cells.items k d) },
 }
 

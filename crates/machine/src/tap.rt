@@ -11,7 +11,7 @@ pub struct Tap {
 }
 
 /// A node, its operation and its taps.
-#[derive(Debug, Default, Drop, PartialEq)]
+#[derive(Clone, Debug, Default, Drop, PartialEq)]
 pub struct Cell {
     pub node: usize,
     pub operation: u8,

@@ -1,13 +1,32 @@
 //! Reads inputs as lines of hexadecimal bytes, and prints for each its design's words, or its refusal.
 #![tactic(auto)]
 
+use anyhow::{Context, bail};
 use bench::inputs::{MAX_TEXT, list_input};
-use cases::lines::print_cases;
+use std::alloc::Global;
 use std::io;
-use std::io::Write;
+use std::io::{BufRead, BufReader, Write};
 
-fn print_answer<R: AllocGlobal + Print>(rt: &R, line: &str) -> anyhow::Result<()> {
-    let bytes = hex::decode(rt.alloc(), line)?;
+/// The most bytes that a line may have.
+const MAX_LINE: usize = 16384;
+
+/// Reads a line's bytes, each of two digits in upper case.
+fn parse_bytes(alloc: Global, line: &str) -> anyhow::Result<Vec<u8>> {
+    if line.bytes().any(|digit| digit.is_ascii_lowercase()) {
+        bail!("a line has a digit in lower case");
+    }
+    if line.len() / 2 > MAX_LINE {
+        bail!("a line is too long");
+    }
+    hex::decode(alloc, line)
+        .ok()
+        .context("a line is no list of bytes")
+}
+
+/// Prints a line's number, and its design's words or its refusal. A line that is no list of bytes has no number printed.
+fn print_case<R: AllocGlobal + Print>(rt: &R, number: usize, line: &str) -> anyhow::Result<()> {
+    let bytes = parse_bytes(rt.alloc(), line)?;
+    println!(rt; "case {number}")?;
     let mut text = [0; MAX_TEXT];
     match list_input(&bytes, &mut text) {
         Ok(length) => io::writer(rt).write_all(&text[..length])?,
@@ -17,5 +36,9 @@ fn print_answer<R: AllocGlobal + Print>(rt: &R, line: &str) -> anyhow::Result<()
 }
 
 fn main(rt: HostRuntime) -> anyhow::Result<()> {
-    print_cases(&rt, |line| print_answer(&rt, line))
+    let lines = BufReader::new(rt.alloc(), rt.reader())?.lines(rt.alloc());
+    for (number, line) in lines.enumerate() {
+        print_case(&rt, number, line?.as_str())?;
+    }
+    Ok(())
 }

@@ -5,14 +5,14 @@ use Rattle.std.proofs.lemmas.Bool.{true≢false, cases_lt, lt-ltb}
 use Rattle.words.specs.declared.graph.Graph.{Graph}
 use Rattle.words.specs.declared.graph.Output.{Output}
 use Rattle.words.specs.declared.design.Design.{Design}
-use Rattle.words.specs.Designs.{is_source, input}
+use Rattle.words.specs.Designs.{InRange, is_source, input}
 use Rattle.words.proofs.Ranges.{ranges}
 use Rattle.bench.specs.Retimings.{order, at_rest}
 use Rattle.bench.proofs.Outcomes.{unless_none}
 use Rattle.cells.specs.Meaning.{Meaning}
 use Rattle.machine.specs.Values.{Solves, output}
 use Rattle.machine.specs.Simulation.{Filled, Simulated, Simulates}
-use Rattle.machine.specs.Buffers.{rest_in, input_in, heard_in}
+use Rattle.machine.specs.Buffers.{value_in, rest_in, input_in, heard_in}
 use Rattle.machine.specs.Refusals.{simulate_fault}
 use Rattle.machine.proofs.Histories.{determined}
 use Rattle.machine.proofs.Simulating.{output_heard, output_held, held_solves}
@@ -29,6 +29,12 @@ outputs_more row e d t y inside is before s l =
     (λ (lower : s < t). get_or-set_other row t s e d (λ eq. omega arith) ∙ before s lower)
     (λ (least : t ≤ s). let same : s ≡ t = omega arith in ap (λ k. get_or (set row t e) k d) same ∙ get_or-set_same row t e d inside ∙ is ∙ ap y (sym same))
     (cases_lt s t)
+
+-- the outputs that are written are those of the history
+outputs_held : {E A : Type 0} (g : Graph) → InRange g → (order : List ℕ) → Meaning E A → (rest x : ℕ → E) (v : ℕ → ℕ → E) (h : List E) (d : E) (T : ℕ) (row after : List E) → Filled g.count order v h d T 0 →
+    ((s : ℕ) → s < T → get_or row s d ≡ output g rest v s) → (t : ℕ) → t < T → t < length row → get_or (row ++ after) t d ≡ output g rest (value_in g.count h d) t
+outputs_held g range order m rest x v h d T row after filled written t lt inside =
+    get_or_append_left row after d t inside ∙ written t lt ∙ output_held g range order m rest x v h d T filled t lt
 
 -- what is heard at the output, said of the design's own count and output
 same_heard : {E : Type 0} (n k : ℕ) (o out : Output) (rest inputs h : List E) (d : E) (t : ℕ) (e : E) → n ≡ k → o ≡ out → e ≡ heard_in n rest inputs h d t o.node o.delay →
@@ -112,7 +118,7 @@ returns-clause-values g c =
           let rest = rest_in graph.count c.args.rest.now d in
           let x = input_in c.args.inputs.now d in
           let one = determined graph range (order graph at_rest) ranked m rest x in
-          get_or_append_left c.loop-time.place-items (drop T c.args.outputs.now) d t (omega (arith, written)) ∙ (kept d).1 t (omega (arith, all)) ∙ output_held graph range (order graph at_rest) m rest x one.history c.loop-time.history d c.loop-time.time (kept d).0 t (omega (arith, all));
+          outputs_held graph range (order graph at_rest) m rest x one.history c.loop-time.history d c.loop-time.time c.loop-time.place-items (drop T c.args.outputs.now) (kept d).0 (kept d).1 t (omega (arith, all)) (omega (arith, written));
       long = c.loop-time.auto.history;
       past_history = c.loop-time.invariant.past_history;
       outputs_long = omega (arith, length-append c.loop-time.place-items (drop T c.args.outputs.now), length-drop T c.args.outputs.now, written, c.in_ok-ask_lengths.ensures.outputs);
