@@ -1,14 +1,9 @@
 -- Every refusal at opening and of the bench: its question, its layer and its places.
 use Rattle.std.specs.Prelude.{ℕ, Some, None, Ok, Err, Option, Result}
 use Rattle.words.specs.declared.faults.Fault.{Fault}
-use Rattle.words.specs.declared.faults.Fault.TheVariants.{Design, Bench}
-use Rattle.words.specs.declared.faults.DesignQuestion.{DesignQuestion}
+use Rattle.words.specs.Refusals.{design_fault, bench_fault}
 use Rattle.words.specs.declared.faults.DesignQuestion.TheVariants as opening
-use Rattle.words.specs.declared.faults.BenchQuestion.{BenchQuestion}
 use Rattle.words.specs.declared.faults.BenchQuestion.TheVariants as bench
-
-abbrev pub design_fault : DesignQuestion → ℕ → ℕ → Fault
-design_fault asked place other = Design (record { question = asked; place = place; other = other })
 
 -- 6: has the cycle buffer n numbers? The length given, and n.
 abbrev pub short_cycle : ℕ → ℕ → Fault
@@ -17,9 +12,6 @@ short_cycle given needed = design_fault opening.CycleBuffer given needed
 -- 7: is the design well-defined? The length of the cycle shown.
 abbrev pub zero_cycle : ℕ → Fault
 zero_cycle length = design_fault opening.WellDefined length 0
-
-abbrev pub bench_fault : BenchQuestion → ℕ → ℕ → Fault
-bench_fault asked place other = Bench (record { question = asked; place = place; other = other })
 
 -- 8: are there n shifts? The number given, and n.
 abbrev pub wrong_row : ℕ → ℕ → Fault

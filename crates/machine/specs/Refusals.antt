@@ -1,12 +1,8 @@
 -- Every refusal of the simulator: its question, its layer and its places.
 use Rattle.std.specs.Prelude.{ℕ, ◌+◌, ◌*◌, cond, Some, None, Option, ◌==◌, nat_le}
 use Rattle.words.specs.declared.faults.Fault.{Fault}
-use Rattle.words.specs.declared.faults.Fault.TheVariants.{Machine}
-use Rattle.words.specs.declared.faults.MachineQuestion.{MachineQuestion}
+use Rattle.words.specs.Refusals.{machine_fault}
 use Rattle.words.specs.declared.faults.MachineQuestion.TheVariants as question
-
-abbrev pub machine_fault : MachineQuestion → ℕ → ℕ → Fault
-machine_fault asked place other = Machine (record { question = asked; place = place; other = other })
 
 -- the most times that are simulated
 abbrev pub max_times : ℕ

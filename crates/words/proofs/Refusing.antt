@@ -216,11 +216,7 @@ unknown p w e after = refuse_2 p w after None e refl
 pub headless : (p : List ℕ) (w : ℕ) → 0 < length p → kind_of w ≡ (Some kind.Head) → Failed p w question.Kind
 headless p w some e after = refuse_2 p w after (Some kind.Head) e (ne_eqb _ _ (λ q. omega arith))
 
--- what an option is, by what `ok_or` makes of it
-pub ok_or_ok : {A E : Type 0} (o : Option A) (e : E) (x : A) → ok_or o e ≡ Ok x → o ≡ Some x
-ok_or_ok None e x h = cc
-ok_or_ok (Some y) e x h = let same : y ≡ x = cc in ap Some same
-
+-- what was refused, where `ok_or` refuses
 pub ok_or_err : {A E : Type 0} (o : Option A) (e q : E) → ok_or o e ≡ Err q → (o ≡ None) × (q ≡ e)
 ok_or_err None e q h = let same : e ≡ q = cc in (refl, sym same)
 ok_or_err (Some y) e q h = cc

@@ -1,5 +1,5 @@
 -- How the words so far stand after one word more.
-use Rattle.std.proofs.Common.{◌≡◌, ℕ, suc, ◌+◌, ◌<◌, true, false, cond, ◌&&◌, ◌||◌, List, [], ◌∷◌, ◌++◌, length, sym, refl, ap, ◌∙◌, arith, Some, Option}
+use Rattle.std.proofs.Common.{◌≡◌, ℕ, suc, ◌+◌, ◌<◌, true, false, not, cond, ◌&&◌, ◌||◌, List, [], ◌∷◌, ◌++◌, length, sym, refl, ap, ◌∙◌, arith, Some, Option}
 use Rattle.std.proofs.lemmas.List.{length_push, get_or_push, get_or_append_left}
 use Rattle.std.proofs.lemmas.List.Sums.{sum_by_push}
 use Rattle.std.proofs.lemmas.Bool.{lt-ltb}
@@ -54,35 +54,24 @@ module _ (p : List ℕ) (n seen least : ℕ) (s : Stands p n seen least false) (
   some_more : 0 < length (p ++ w ∷ [])
   some_more = omega (arith, length_push p w)
 
-  pub stands_node : kind_of w ≡ (Some kind.Node) → Stands (p ++ w ∷ []) n (seen + 1) 0 false
-  stands_node e =
+  -- by the kind of the word that comes
+  stands_as : (k : Option Kind) (e : kind_of w ≡ k) (more : ℕ) → seen + cond (is_node k) 1 0 ≡ more → 0 < more → (is_node k || is_feed k) ≡ not (is_output k) →
+      Stands (p ++ w ∷ []) n more (cond (is_feed k) (suc (field 0 6 w)) 0) (is_output k)
+  stands_as k e more all some kept =
       record {
         some = some_more;
         count = push_count p w s.some ∙ s.count;
-        nodes = push_nodes p w ∙ ap (λ κ. nodes_in p + cond (is_node κ) 1 0) e ∙ ap (λ m. m + 1) s.nodes;
-        least = push_least p w (Some kind.Node) e;
-        node = push_in_node p w (Some kind.Node) e ∙ sym (ap (λ b. b && true) (lt-ltb 0 (seen + 1) (omega arith)));
-        output = push_output p w (Some kind.Node) e;
+        nodes = push_nodes p w ∙ ap (λ κ. nodes_in p + cond (is_node κ) 1 0) e ∙ ap (λ m. m + cond (is_node k) 1 0) s.nodes ∙ all;
+        least = push_least p w k e;
+        node = push_in_node p w k e ∙ kept ∙ sym (ap (λ b. b && not (is_output k)) (lt-ltb 0 more some));
+        output = push_output p w k e;
       }
+
+  pub stands_node : kind_of w ≡ (Some kind.Node) → Stands (p ++ w ∷ []) n (seen + 1) 0 false
+  stands_node e = stands_as (Some kind.Node) e (seen + 1) refl (omega arith) refl
 
   pub stands_feed : 0 < seen → kind_of w ≡ (Some kind.Feed) → Stands (p ++ w ∷ []) n seen (suc (field 0 6 w)) false
-  stands_feed h e =
-      record {
-        some = some_more;
-        count = push_count p w s.some ∙ s.count;
-        nodes = push_nodes p w ∙ ap (λ κ. nodes_in p + cond (is_node κ) 1 0) e ∙ ap (λ m. m + 0) s.nodes ∙ omega arith;
-        least = push_least p w (Some kind.Feed) e;
-        node = push_in_node p w (Some kind.Feed) e ∙ sym (ap (λ b. b && true) (lt-ltb 0 seen h));
-        output = push_output p w (Some kind.Feed) e;
-      }
+  stands_feed h e = stands_as (Some kind.Feed) e seen (omega arith) h refl
 
   pub stands_output : 0 < seen → kind_of w ≡ (Some kind.Output) → Stands (p ++ w ∷ []) n seen 0 true
-  stands_output h e =
-      record {
-        some = some_more;
-        count = push_count p w s.some ∙ s.count;
-        nodes = push_nodes p w ∙ ap (λ κ. nodes_in p + cond (is_node κ) 1 0) e ∙ ap (λ m. m + 0) s.nodes ∙ omega arith;
-        least = push_least p w (Some kind.Output) e;
-        node = push_in_node p w (Some kind.Output) e ∙ sym (ap (λ b. b && false) (lt-ltb 0 seen h));
-        output = push_output p w (Some kind.Output) e;
-      }
+  stands_output h e = stands_as (Some kind.Output) e seen (omega arith) h refl

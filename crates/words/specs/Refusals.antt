@@ -1,12 +1,24 @@
--- Every refusal of the word reader: its question, its layer and its places.
+-- A refusal by each layer: its question and its places; and every refusal of the word reader.
 use Rattle.std.specs.Prelude.{ℕ}
 use Rattle.words.specs.declared.faults.Fault.{Fault}
-use Rattle.words.specs.declared.faults.Fault.TheVariants.{Words}
+use Rattle.words.specs.declared.faults.Fault.TheVariants.{Words, Design, Bench, Machine}
 use Rattle.words.specs.declared.faults.WordsQuestion.{WordsQuestion}
 use Rattle.words.specs.declared.faults.WordsQuestion.TheVariants as question
+use Rattle.words.specs.declared.faults.DesignQuestion.{DesignQuestion}
+use Rattle.words.specs.declared.faults.BenchQuestion.{BenchQuestion}
+use Rattle.words.specs.declared.faults.MachineQuestion.{MachineQuestion}
 
 abbrev pub words_fault : WordsQuestion → ℕ → Fault
 words_fault asked index = Words (record { question = asked; place = index; other = 0 })
+
+abbrev pub design_fault : DesignQuestion → ℕ → ℕ → Fault
+design_fault asked place other = Design (record { question = asked; place = place; other = other })
+
+abbrev pub bench_fault : BenchQuestion → ℕ → ℕ → Fault
+bench_fault asked place other = Bench (record { question = asked; place = place; other = other })
+
+abbrev pub machine_fault : MachineQuestion → ℕ → ℕ → Fault
+machine_fault asked place other = Machine (record { question = asked; place = place; other = other })
 
 -- 1: is there a word here?
 abbrev pub no_word : ℕ → Fault

@@ -3,9 +3,9 @@
 ghost use Rattle.std.specs.Prelude.{◌≡◌, ℕ, List, Some};
 ghost use Rattle.words.specs.Lines.{line, spelled, words_layer, design_layer, bench_layer, machine_layer};
 ghost use Rattle.words.specs.Numbers.{words_number, design_number, bench_number, machine_number};
-ghost use Rattle.words.specs.Refusals.{words_fault};
+ghost use Rattle.words.specs.Refusals.{words_fault, design_fault, bench_fault, machine_fault};
 ghost use Rattle.words.specs.declared.faults.Fault.{Fault};
-ghost use Rattle.words.specs.declared.faults.Fault.TheVariants.{Words, Design, Bench, Machine};
+ghost use Rattle.words.specs.declared.faults.Fault.TheVariants.{Words};
 
 use std::error::Error;
 use std::fmt;
@@ -82,18 +82,6 @@ pub struct Refusal<Q> {
     pub other: usize,
 }
 
-impl<Q> Refusal<Q> {
-    fn by(question: Q, place: usize, other: usize) -> Refusal<Q>
-        ensures { result ≡ record { question = question; place = place; other = other } }
-    {
-        Refusal {
-            question,
-            place,
-            other,
-        }
-    }
-}
-
 /// A refusal by the word reader.
 pub type WordsFault = Refusal<WordsQuestion>;
 
@@ -152,7 +140,11 @@ impl Question for WordsQuestion {
     }
 
     fn refused(self, place: usize, other: usize) -> Fault {
-        Fault::Words(Refusal::by(self, place, other))
+        Fault::Words(Refusal {
+            question: self,
+            place,
+            other,
+        })
     }
 }
 
@@ -170,7 +162,7 @@ impl Question for DesignQuestion {
 
     ghost layer = { λ _. design_layer };
 
-    ghost fault = { λ question place other. Design (record { question = question; place = place; other = other }) };
+    ghost fault = { design_fault };
 
     fn number(self) -> u8 {
         self as u8
@@ -181,7 +173,11 @@ impl Question for DesignQuestion {
     }
 
     fn refused(self, place: usize, other: usize) -> Fault {
-        Fault::Design(Refusal::by(self, place, other))
+        Fault::Design(Refusal {
+            question: self,
+            place,
+            other,
+        })
     }
 }
 
@@ -190,7 +186,7 @@ impl Question for BenchQuestion {
 
     ghost layer = { λ _. bench_layer };
 
-    ghost fault = { λ question place other. Bench (record { question = question; place = place; other = other }) };
+    ghost fault = { bench_fault };
 
     fn number(self) -> u8 {
         self as u8
@@ -201,7 +197,11 @@ impl Question for BenchQuestion {
     }
 
     fn refused(self, place: usize, other: usize) -> Fault {
-        Fault::Bench(Refusal::by(self, place, other))
+        Fault::Bench(Refusal {
+            question: self,
+            place,
+            other,
+        })
     }
 }
 
@@ -210,7 +210,7 @@ impl Question for MachineQuestion {
 
     ghost layer = { λ _. machine_layer };
 
-    ghost fault = { λ question place other. Machine (record { question = question; place = place; other = other }) };
+    ghost fault = { machine_fault };
 
     fn number(self) -> u8 {
         self as u8
@@ -221,7 +221,11 @@ impl Question for MachineQuestion {
     }
 
     fn refused(self, place: usize, other: usize) -> Fault {
-        Fault::Machine(Refusal::by(self, place, other))
+        Fault::Machine(Refusal {
+            question: self,
+            place,
+            other,
+        })
     }
 }
 

@@ -2,8 +2,11 @@
 
 ghost use Rattle.std.specs.Prelude.{◌≡◌, ◌≤◌, take};
 
-/// How many words an input gives at the most: one more than the longest design has.
-pub const MAX_WORDS: usize = 1092;
+use crate::graph::{MAX_NODES, SOURCES};
+
+/// How many words an input gives at the most: one more than the longest design has, which is a head, its nodes each with a feed from
+/// every source, an output and an end.
+pub const MAX_WORDS: usize = 3 + MAX_NODES * (1 + SOURCES) + 1;
 
 /// The words that an input's bytes make.
 #[derive(Clone, Copy)]
