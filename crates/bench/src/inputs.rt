@@ -3,13 +3,14 @@
 ghost use Rattle.std.specs.Prelude.{◌≤◌, length, IfOk};
 ghost use Rattle.bench.specs.Answer.{Answered};
 
-use crate::listing::list_design;
+use crate::listing::{LINE, list_design};
+use crate::writer::MAX_DESIGN_WORDS;
 use words::faults::Fault;
 use words::input::InputWords;
 use words::reader::read_design;
 
-/// How many bytes the longest listing has: 1,091 lines of nine bytes.
-pub const MAX_TEXT: usize = 9819;
+/// How many bytes the longest listing of a design has.
+pub const MAX_TEXT: usize = MAX_DESIGN_WORDS * LINE;
 
 /// Lists the words of the design in an input's bytes to the front of `text`, and answers how many bytes there are.
 pub fn list_input(bytes: &[u8], text: &mut [u8]) -> Result<usize, Fault>

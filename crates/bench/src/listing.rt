@@ -11,7 +11,7 @@ use words::design::Design;
 use words::faults::{BenchQuestion, Fault, Question};
 
 /// How many bytes a word's line has: eight digits and the line's end.
-const LINE: usize = 9;
+pub(crate) const LINE: usize = 9;
 
 /// The byte of a hexadecimal digit.
 fn digit_of(value: u32) -> u8

@@ -9,11 +9,11 @@ use crate::encode::WordKind;
 use arrayvec::ArrayVec;
 use words::design::Design;
 use words::faults::{BenchQuestion, Fault, Question};
-use words::graph::Node;
+use words::graph::{MAX_NODES, Node, SOURCES};
 use words::kinds::Kind;
 
 /// The longest design's words: a head, 32 nodes with 33 feeds each, the output and the end.
-const MAX_DESIGN_WORDS: usize = 1091;
+pub(crate) const MAX_DESIGN_WORDS: usize = 1 + MAX_NODES * (1 + SOURCES) + 2;
 
 /// The words of a design, as far as they are made.
 pub(crate) type DesignWords = ArrayVec<u32, MAX_DESIGN_WORDS>;

@@ -1,6 +1,7 @@
 //! The moves of a case.
 
-ghost use Rattle.cases.specs.Moves.{Lends};
+ghost use Rattle.std.specs.Prelude.{IfOk};
+ghost use Rattle.cases.specs.Moves.{Lends, Says};
 
 use crate::rows::parse_row;
 use anyhow::bail;
@@ -17,7 +18,9 @@ pub enum Move {
 
 impl Move {
     /// Reads `lag SHIFT SHIFT ..`, `slow FACTOR` or `settle`.
-    pub fn parse(alloc: Global, text: &str) -> anyhow::Result<Move> {
+    pub fn parse(alloc: Global, text: &str) -> anyhow::Result<Move>
+        ensures { IfOk result (Says text.now) }
+    {
         match text.split_once(' ').unwrap_or((text, "")) {
             ("lag", shifts) => Ok(Move::Lag(parse_row(alloc, shifts, str::parse::<i32>)?)),
             ("slow", factor) => Ok(Move::Slow(factor.parse::<u32>()?)),

@@ -1,7 +1,6 @@
-use Rattle.std.proofs.Common.{ℕ, ◌*◌, ◌<◌, List, length, get_or, ℤ, pos, ◌+ℤ◌, Option, sym, refl, ap, ◌∙◌, arith}
+use Rattle.std.proofs.Common.{◌<◌, length, refl, ap, ◌∙◌, arith}
 use Rattle.words.specs.declared.faults.Fault.{Fault}
-use Rattle.bench.specs.declared.retiming.NodeRecord.{NodeRecord}
-use Rattle.bench.specs.Moves.{lag_fault_at, natural, new_lag}
+use Rattle.bench.specs.Moves.{natural}
 use Rattle.bench.proofs.Moving.{lag_of_record, fault_of_record, record_more}
 use Rattle.bench.proofs.Outcomes.{unless_err, unless_none, taken, refused}
 use Rattle.bench.proofs.Searches.{first_start, first_found, first_more}
