@@ -1,6 +1,6 @@
 -- The worked designs are in range: each of their numbers, looked at in turn.
-use Rattle.std.proofs.Common.{◌≡◌, ℕ, zero, suc, ◌<◌, ◌≤◌, Bool, true, false, cond, ◌&&◌, eqb, ltb, length, get_or, is_some, Some, None, Option, sym, refl, ap, ◌∙◌, ⊎_elim, arith}
-use Rattle.std.proofs.lemmas.List.{get_or_past, get_or-replicate}
+use Rattle.std.proofs.Common.{◌≡◌, ℕ, ◌+◌, ◌-◌, ◌<◌, ◌≤◌, Bool, true, false, cond, ◌&&◌, eqb, ltb, List, ◌++◌, length, get_or, replicate, take, is_some, Some, None, Option, sym, refl, ap, ◌∙◌, ⊎_elim, arith}
+use Rattle.std.proofs.lemmas.List.{get_or_past, get_or-replicate, get_or-append_right, length-append, length-replicate}
 use Rattle.std.proofs.lemmas.Bool.{true≢false, and_parts, ltb-true, eqb-true, cases_lt}
 use Rattle.words.specs.declared.graph.Node.{Node}
 use Rattle.words.specs.declared.graph.Graph.{Graph}
@@ -52,33 +52,31 @@ node_fine n node e =
 nodes_fine : (g : Graph) → first (λ i. node_bad g.count (node_at g i)) max_nodes ≡ None → (i : ℕ) → i < max_nodes → NodeInRange g.count (node_at g i)
 nodes_fine g none i l = node_fine g.count (node_at g i) (first_none (λ k. node_bad g.count (node_at g k)) max_nodes i none l)
 
+-- a design whose table is nodes, and blanks past them
+module _ (g : Graph) (l : List Node) (k : ℕ) (table : g.nodes ≡ l ++ replicate k blank) (counted : length l ≡ g.count) (full : g.count + k ≡ max_nodes) where
+  past : (i : ℕ) → g.count ≤ i → i < max_nodes → node_at g i ≡ blank
+  past i h lt = ap (λ ns. get_or ns i absent) table ∙ get_or-append_right l (replicate k blank) g.count i absent counted h ∙ get_or-replicate k (i - g.count) blank absent (omega (arith, full))
+
+  in_range : 1 ≤ g.count → g.output.node < g.count → g.output.delay < byte → first (λ i. node_bad g.count (node_at g i)) max_nodes ≡ None → InRange g
+  in_range some node delay none =
+      record {
+        some = some;
+        few = omega (arith, full);
+        table = ap length table ∙ length-append l (replicate k blank) ∙ ap (λ n. length l + n) (length-replicate k blank) ∙ ap (λ n. n + k) counted ∙ full;
+        nodes = nodes_fine g none;
+        rest = past;
+        output_node = node;
+        output_delay = delay;
+      }
+
 pub e_in_range : InRange design_e
 unfolding first node_bad feed_bad
-e_in_range =
-    record { some = omega arith; few = omega arith; table = refl; nodes = nodes_fine design_e refl; rest = rest; output_node = omega arith; output_delay = omega arith }
-  where
-    rest : (i : ℕ) → 2 ≤ i → i < 32 → node_at design_e i ≡ blank
-    rest zero l m = absurd (omega arith)
-    rest (suc zero) l m = absurd (omega arith)
-    rest (suc (suc k)) l m = get_or-replicate 30 k blank absent (omega arith)
+e_in_range = in_range design_e (take design_e.count design_e.nodes) 30 refl refl refl (omega arith) (omega arith) (omega arith) refl
 
 pub loop_in_range : InRange loop
 unfolding first node_bad feed_bad
-loop_in_range =
-    record { some = omega arith; few = omega arith; table = refl; nodes = nodes_fine loop refl; rest = rest; output_node = omega arith; output_delay = omega arith }
-  where
-    rest : (i : ℕ) → 1 ≤ i → i < 32 → node_at loop i ≡ blank
-    rest zero l m = absurd (omega arith)
-    rest (suc k) l m = get_or-replicate 31 k blank absent (omega arith)
+loop_in_range = in_range loop (take loop.count loop.nodes) 31 refl refl refl (omega arith) (omega arith) (omega arith) refl
 
 pub fir_in_range : InRange fir
 unfolding first node_bad feed_bad
-fir_in_range =
-    record { some = omega arith; few = omega arith; table = refl; nodes = nodes_fine fir refl; rest = rest; output_node = omega arith; output_delay = omega arith }
-  where
-    rest : (i : ℕ) → 4 ≤ i → i < 32 → node_at fir i ≡ blank
-    rest zero l m = absurd (omega arith)
-    rest (suc zero) l m = absurd (omega arith)
-    rest (suc (suc zero)) l m = absurd (omega arith)
-    rest (suc (suc (suc zero))) l m = absurd (omega arith)
-    rest (suc (suc (suc (suc k)))) l m = get_or-replicate 28 k blank absent (omega arith)
+fir_in_range = in_range fir (take fir.count fir.nodes) 28 refl refl refl (omega arith) (omega arith) (omega arith) refl

@@ -1,5 +1,5 @@
 -- The array of design E, settled, for seven cycles.
-use Rattle.std.proofs.Common.{◌≡◌, ℕ, zero, suc, ◌<◌, ◌≤◌, List, [], ◌∷◌, map, get_or, ℤ, pos, ◌+ℤ◌, ◌*ℤ◌, refl, ap, ◌∙◌, arith, w32}
+use Rattle.std.proofs.Common.{◌≡◌, ℕ, zero, suc, ◌-◌, ◌<◌, ◌≤◌, List, [], ◌∷◌, map, get_or, ℤ, pos, ◌+ℤ◌, ◌*ℤ◌, refl, ap, ◌∙◌, arith, w32}
 use lib.IntN.{+ℤ_idl}
 use Rattle.std.specs.Int.{int_wrap}
 use Rattle.words.specs.Designs.{sources}
@@ -13,6 +13,7 @@ use Rattle.cells.specs.Sums.{whole_meaning}
 use Rattle.machine.specs.declared.tap.Tap.{Tap}
 use Rattle.machine.specs.Values.{past, heard, taps_to, operand}
 use Rattle.machine.specs.Arrays.{array_of, Runs, put_out}
+use Rattle.machine.proofs.Histories.{past_at}
 use Rattle.channels.specs.Examples.{design_e}
 use Rattle.channels.specs.Worked.{settled_e, CellsOfE, inputs_of_e, steps_of_e}
 use Rattle.channels.proofs.Computed.{e_lags}
@@ -47,39 +48,40 @@ module _ (table : List (Weight ℤ)) (cells : CellsOfE table) (rest x : ℕ → 
       ∙ ap (λ z. int_wrap w32 (z +ℤ past (u 1) (rest 1) τ 1)) (+ℤ_idl (past (u 0) (rest 0) τ 2 *ℤ pos 2))
 
   module _ (at_rest : rest 0 ≡ pos 0) (inputs : (τ : ℕ) → τ < 7 → x τ ≡ get_or inputs_of_e τ (pos 0)) where
-    second_holds : (τ : ℕ) (input out : ℤ) → x τ ≡ input → int_wrap w32 (input *ℤ pos 3) ≡ out → u 1 τ ≡ out
-    second_holds τ input out is product = second_cell τ ∙ ap (λ z. int_wrap w32 (z *ℤ pos 3)) is ∙ product
-
-    first_holds : (τ : ℕ) (older newer out : ℤ) → 1 ≤ τ → past (u 0) (rest 0) τ 2 ≡ older → past (u 1) (rest 1) τ 1 ≡ newer → int_wrap w32 (older *ℤ pos 2 +ℤ newer) ≡ out → u 0 τ ≡ out
-    first_holds τ older newer out l before fed sum =
-        first_cell τ l ∙ ap (λ z. int_wrap w32 (z *ℤ pos 2 +ℤ past (u 1) (rest 1) τ 1)) before ∙ ap (λ z. int_wrap w32 (older *ℤ pos 2 +ℤ z)) fed ∙ sum
-
     at_0 : u 0 0 ≡ pos 0
     at_0 = runs.holds 0 0 (omega arith) (omega (arith, e_lags.0)) ∙ at_rest
 
+    -- the value at a cycle, from the one two cycles before and the input one before
+    step : (τ : ℕ) (older fed out : ℤ) → τ < 7 → past (u 0) (rest 0) (suc τ) 2 ≡ older → int_wrap w32 (get_or inputs_of_e τ (pos 0) *ℤ pos 3) ≡ fed → int_wrap w32 (older *ℤ pos 2 +ℤ fed) ≡ out → u 0 (suc τ) ≡ out
+    step τ older fed out l before product sum =
+        let back : suc τ - 1 ≡ τ = omega arith in
+        let heard-of-1 : past (u 1) (rest 1) (suc τ) 1 ≡ fed =
+        past_at (u 1) (rest 1) (suc τ) 1 (omega arith) ∙ ap (u 1) back ∙ second_cell τ ∙ ap (λ z. int_wrap w32 (z *ℤ pos 3)) (inputs τ l) ∙ product in
+        first_cell (suc τ) (omega arith) ∙ ap (λ z. int_wrap w32 (z *ℤ pos 2 +ℤ past (u 1) (rest 1) (suc τ) 1)) before ∙ ap (λ z. int_wrap w32 (older *ℤ pos 2 +ℤ z)) heard-of-1 ∙ sum
+
     at_1 : u 0 1 ≡ pos 3
     unfolding int_wrap
-    at_1 = first_holds 1 (pos 0) (pos 3) (pos 3) (omega arith) at_rest (second_holds 0 (pos 1) (pos 3) (inputs 0 (omega arith)) refl) refl
+    at_1 = step 0 (pos 0) (pos 3) (pos 3) (omega arith) at_rest refl refl
 
     at_2 : u 0 2 ≡ pos 15
     unfolding int_wrap
-    at_2 = first_holds 2 (pos 0) (pos 15) (pos 15) (omega arith) at_0 (second_holds 1 (pos 5) (pos 15) (inputs 1 (omega arith)) refl) refl
+    at_2 = step 1 (pos 0) (pos 15) (pos 15) (omega arith) at_0 refl refl
 
     at_3 : u 0 3 ≡ pos 9
     unfolding int_wrap
-    at_3 = first_holds 3 (pos 3) (pos 3) (pos 9) (omega arith) at_1 (second_holds 2 (pos 1) (pos 3) (inputs 2 (omega arith)) refl) refl
+    at_3 = step 2 (pos 3) (pos 3) (pos 9) (omega arith) at_1 refl refl
 
     at_4 : u 0 4 ≡ pos 30
     unfolding int_wrap
-    at_4 = first_holds 4 (pos 15) (pos 0) (pos 30) (omega arith) at_2 (second_holds 3 (pos 0) (pos 0) (inputs 3 (omega arith)) refl) refl
+    at_4 = step 3 (pos 15) (pos 0) (pos 30) (omega arith) at_2 refl refl
 
     at_5 : u 0 5 ≡ pos 21
     unfolding int_wrap
-    at_5 = first_holds 5 (pos 9) (pos 3) (pos 21) (omega arith) at_3 (second_holds 4 (pos 1) (pos 3) (inputs 4 (omega arith)) refl) refl
+    at_5 = step 4 (pos 9) (pos 3) (pos 21) (omega arith) at_3 refl refl
 
     at_6 : u 0 6 ≡ pos 60
     unfolding int_wrap
-    at_6 = first_holds 6 (pos 30) (pos 0) (pos 60) (omega arith) at_4 (second_holds 5 (pos 0) (pos 0) (inputs 5 (omega arith)) refl) refl
+    at_6 = step 5 (pos 30) (pos 0) (pos 60) (omega arith) at_4 refl refl
 
     pub e_steps : (τ : ℕ) → τ < 7 → put_out (array_of design_e settled_e) rest u τ ≡ get_or steps_of_e τ (pos 0)
     unfolding moved

@@ -7,7 +7,8 @@ ghost use Rattle.machine.specs.Buffers.{rest_place, heard_in};
 use crate::tap::Tap;
 use words::graph::INPUT;
 
-/// A time of a simulation of `count` nodes, with the rest row and the inputs.
+/// A time of a simulation of `count` nodes, with the rest row and the inputs. The history is lent beside it, since it changes while the nodes
+/// of one time fire.
 #[derive(Drop)]
 pub(crate) struct Moment<'a, E> {
     pub(crate) count: usize,

@@ -1,14 +1,17 @@
 //! A case, as a line has it.
 
+use crate::element::Element;
 use crate::rows::read_weights;
-use anyhow::Context;
+use anyhow::{Context, ensure};
 use bench::bench::Bench;
 use cases::designs::parse_design;
 use cases::moves::Move;
-use cells::floats::FloatCells;
-use cells::whole::WholeCells;
+use cells::summing::{Summand, SummingCells};
 use std::alloc::Global;
 use words::graph::MAX_NODES;
+
+/// How many fields a line has.
+const FIELDS: usize = 8;
 
 /// The fields of a line, which colons part.
 #[derive(Clone, Copy)]
@@ -27,7 +30,11 @@ impl<'a> TryFrom<&'a str> for Case<'a> {
     type Error = anyhow::Error;
 
     fn try_from(line: &'a str) -> anyhow::Result<Case<'a>> {
-        let mut fields = line.splitn(8, ':');
+        ensure!(
+            line.split(':').count() == FIELDS,
+            "a line has not eight fields"
+        );
+        let mut fields = line.split(':');
         let mut field = || fields.next().context("a line has not eight fields");
         Ok(Case {
             words: field()?,
@@ -56,13 +63,9 @@ impl Case<'_> {
         Ok(bench)
     }
 
-    pub(crate) fn whole_cells(self) -> anyhow::Result<WholeCells> {
+    /// Cells that sum, with the table of the line.
+    pub(crate) fn summing_cells<N: Element + Summand>(self) -> anyhow::Result<SummingCells<N>> {
         let weights = read_weights(self.weights)?;
-        Ok(WholeCells { weights })
-    }
-
-    pub(crate) fn float_cells(self) -> anyhow::Result<FloatCells> {
-        let weights = read_weights(self.weights)?;
-        Ok(FloatCells { weights })
+        Ok(SummingCells { weights })
     }
 }

@@ -86,6 +86,19 @@ where
     Ok(())
 }
 
+/// Simulates a case on the bubble layer over a library.
+fn print_bubbles<R: AllocGlobal + Print, L: CellLibrary + Drop>(
+    rt: &R,
+    bench: &Bench,
+    below: L,
+    case: Case<'_>,
+) -> anyhow::Result<()>
+where
+    L::Elem: Element,
+{
+    print_run(rt, bench, Bubble { below }, case)
+}
+
 /// Simulates a case on the cells that it names.
 fn print_answer<R: AllocGlobal + Print>(
     rt: &R,
@@ -93,21 +106,12 @@ fn print_answer<R: AllocGlobal + Print>(
     case: Case<'_>,
 ) -> anyhow::Result<()> {
     match case.cells {
-        "whole" => print_run(rt, bench, case.whole_cells()?, case),
-        "float" => print_run(rt, bench, case.float_cells()?, case),
+        "whole" => print_run(rt, bench, case.summing_cells::<i32>()?, case),
+        "float" => print_run(rt, bench, case.summing_cells::<f32>()?, case),
         "compare" => print_run(rt, bench, CompareCells, case),
-        "bubble whole" => {
-            let below = case.whole_cells()?;
-            print_run(rt, bench, Bubble { below }, case)
-        }
-        "bubble float" => {
-            let below = case.float_cells()?;
-            print_run(rt, bench, Bubble { below }, case)
-        }
-        "bubble compare" => {
-            let below = CompareCells;
-            print_run(rt, bench, Bubble { below }, case)
-        }
+        "bubble whole" => print_bubbles(rt, bench, case.summing_cells::<i32>()?, case),
+        "bubble float" => print_bubbles(rt, bench, case.summing_cells::<f32>()?, case),
+        "bubble compare" => print_bubbles(rt, bench, CompareCells, case),
         _ => bail!("a line has no such cells"),
     }
 }

@@ -145,8 +145,9 @@ fn print_verdict(rt: &impl Print, verdict: Result<(), Breach>) -> io::Result<()>
 fn print_bench(rt: &impl Print, bench: &Bench) -> io::Result<()> {
     let (factor, latency) = bench.timing();
     println!(rt; "  K = {factor}, L = {latency}")?;
-    let lags = (0..MAX_NODES).map_while(|node| bench.lag_of(node));
-    for (node, lag) in lags.enumerate() {
+    let nodes = 0..bench.design().count();
+    let lags = nodes.filter_map(|node| Some((node, bench.lag_of(node)?)));
+    for (node, lag) in lags {
         print_node(rt, bench, node, lag)?;
     }
     print_order(rt, bench)?;

@@ -78,7 +78,7 @@ fn short_cycle_buffers_of_every_length(rt: HostRuntime) -> Result<(), Fail> {
         [9; 3],
         2,
         |cycle| Bench::open(&design, cycle).err(),
-        |length| { DesignQuestion::CycleBuffer.refused(length, 2) },
+        |length| DesignQuestion::CycleBuffer.refused(length, 2),
     )?;
     Ok(())
 }
