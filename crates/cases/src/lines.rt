@@ -11,8 +11,9 @@ pub fn print_cases<R: AllocGlobal + Input + Print, F: Fn(&str) -> anyhow::Result
 {
     let lines = BufReader::new(rt.alloc(), rt.reader())?.lines(rt.alloc());
     for (number, line) in lines.enumerate() {
+        let line = line?;
         println!(rt; "case {number}")?;
-        print_case(line?.as_str())?;
+        print_case(line.as_str())?;
     }
     Ok(())
 }
