@@ -1,6 +1,9 @@
 //! Rows: items in a line of a case, and in a line that is printed.
 
+ghost use Rattle.std.specs.Prelude.{IfOk, Ok};
+ghost use Rattle.std.specs.Fn.{FnReturnsAt};
 ghost use Rattle.std.specs.Iterator.{IsFinite};
+ghost use Rattle.cases.specs.Rows.{IsRow};
 
 use std::alloc::Global;
 use std::error::Error;
@@ -24,9 +27,15 @@ pub(crate) fn parse_row<T: Drop, E: Error, F: Fn(&str) -> Result<T, E>>(
     parse: F,
 ) -> anyhow::Result<Vec<T>>
     requires { F.IsAlwaysCallable parse }
+    ensures { IfOk result (λ row. IsRow (λ item value. FnReturnsAt F.Fn parse item (Ok value)) text.now row.items) }
 {
     text.split_whitespace()
-        .map(|item| parse(item).map_err(anyhow::Error::from))
+        .map(
+            |item| -> anyhow::Result<T>
+                requires { F.IsAlwaysCallable parse }
+                ensures { IfOk result (λ value. FnReturnsAt F.Fn parse item.now (Ok value)) }
+            { parse(item).map_err(anyhow::Error::from) },
+        )
         .try_collect(alloc)
 }
 
