@@ -24,7 +24,7 @@ impl Move {
         match text.split_once(' ').unwrap_or((text, "")) {
             ("lag", shifts) => Ok(Move::Lag(parse_row(alloc, shifts, str::parse::<i32>)?)),
             ("slow", factor) => Ok(Move::Slow(factor.parse::<u32>()?)),
-            ("settle", "") => Ok(Move::Settle),
+            ("settle", _) if text == "settle" => Ok(Move::Settle),
             _ => bail!("a line has no such move"),
         }
     }

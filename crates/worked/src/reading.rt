@@ -11,8 +11,9 @@ use words::faults::{
 use words::input::InputWords;
 use words::reader::read_design;
 
-fn by_words(question: WordsQuestion, place: usize) -> Option<Fault> {
-    Some(question.refused(place, 0))
+/// What a call answers that refuses by a question.
+pub(crate) fn by<Q: Question>(question: Q, place: usize, other: usize) -> Option<Fault> {
+    Some(question.refused(place, other))
 }
 
 #[test]
@@ -105,22 +106,22 @@ fn one_node_lists(rt: HostRuntime) -> Result<(), Fail> {
 
 #[test]
 fn each_question_refuses(rt: HostRuntime) {
-    assert_eq!(rt; read_design(&[]).err(), by_words(WordsQuestion::Word, 0));
+    assert_eq!(rt; read_design(&[]).err(), by(WordsQuestion::Word, 0, 0));
     assert_eq!(rt;
         read_design(&[0x20000000]).err(),
-        by_words(WordsQuestion::Kind, 0)
+        by(WordsQuestion::Kind, 0, 0)
     );
     assert_eq!(rt;
         read_design(&[0x10000000]).err(),
-        by_words(WordsQuestion::Range, 0)
+        by(WordsQuestion::Range, 0, 0)
     );
     assert_eq!(rt;
         read_design(&[0x10000002, 0x20000001]).err(),
-        by_words(WordsQuestion::Order, 1)
+        by(WordsQuestion::Order, 1, 0)
     );
     assert_eq!(rt;
         read_design(&[0x10000001, 0x20000000, 0x40000000, 0x50000005]).err(),
-        by_words(WordsQuestion::End, 3)
+        by(WordsQuestion::End, 3, 0)
     );
 }
 
@@ -128,27 +129,27 @@ fn each_question_refuses(rt: HostRuntime) {
 fn questions_refuse_further_on(rt: HostRuntime) {
     assert_eq!(rt;
         read_design(&[0x10000001, 0x20000000]).err(),
-        by_words(WordsQuestion::Word, 2)
+        by(WordsQuestion::Word, 2, 0)
     );
     assert_eq!(rt;
         read_design(&[0x10000001, 0x30000020]).err(),
-        by_words(WordsQuestion::Kind, 1)
+        by(WordsQuestion::Kind, 1, 0)
     );
     assert_eq!(rt;
         read_design(&[0x10000021]).err(),
-        by_words(WordsQuestion::Range, 0)
+        by(WordsQuestion::Range, 0, 0)
     );
     assert_eq!(rt;
         read_design(&[0x10000001, 0x20000001]).err(),
-        by_words(WordsQuestion::Range, 1)
+        by(WordsQuestion::Range, 1, 0)
     );
     assert_eq!(rt;
         read_design(&[0x10000001, 0x20000000, 0x30000020, 0x30000000]).err(),
-        by_words(WordsQuestion::Order, 3)
+        by(WordsQuestion::Order, 3, 0)
     );
     assert_eq!(rt;
         read_design(&[0x10000001, 0x20000000, 0x40000000, 0x50000004, 0]).err(),
-        by_words(WordsQuestion::End, 3)
+        by(WordsQuestion::End, 3, 0)
     );
 }
 
@@ -157,7 +158,7 @@ fn left_over_bytes_refuse(rt: HostRuntime) -> Result<(), Fail> {
     let input = InputWords::try_from(b"\x10\x00\x00\x01".as_slice())?;
     assert!(rt; input.as_slice() == [0x10000001].as_slice());
     let left_over = InputWords::try_from(b"\x10\x00\x00\x01\x20".as_slice());
-    assert_eq!(rt; left_over.err(), by_words(WordsQuestion::Word, 1));
+    assert_eq!(rt; left_over.err(), by(WordsQuestion::Word, 1, 0));
     Ok(())
 }
 

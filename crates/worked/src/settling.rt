@@ -1,13 +1,13 @@
 //! Design E, an FIR filter and one-node designs on the bench, and one refusal by each question of opening and moving.
 
 use crate::buffers::shorter_buffers_stay;
-use crate::reading::too_short;
+use crate::reading::{by, too_short};
 use bench::bench::Bench;
 use bench::calls::Call;
 use bench::verdict::Breach;
 use examples::designs::{DESIGN_E, FIR};
 use std::test::Fail;
-use words::faults::{BenchQuestion, DesignQuestion, Fault, MachineQuestion, Question};
+use words::faults::{BenchQuestion, DesignQuestion, Fault, Question};
 use words::graph::MAX_NODES;
 use words::reader::read_design;
 
@@ -19,14 +19,6 @@ fn settled(words: &[u32]) -> Result<Bench, Fault> {
     let mut bench = opened(words)?;
     bench.settle()?;
     Ok(bench)
-}
-
-fn by_bench(question: BenchQuestion, place: usize, other: usize) -> Option<Fault> {
-    Some(question.refused(place, other))
-}
-
-pub(crate) fn by_machine(question: MachineQuestion, place: usize, other: usize) -> Option<Fault> {
-    Some(question.refused(place, other))
 }
 
 #[test]
@@ -97,28 +89,16 @@ fn cycle_buffers_of_an_opened_design_stay(rt: HostRuntime) -> Result<(), Fail> {
 #[test]
 fn lags_of_design_e(rt: HostRuntime) -> Result<(), Fail> {
     let mut bench = opened(&DESIGN_E)?;
-    assert_eq!(rt;
-        bench.lag(&[0, 1]).err(),
-        by_bench(BenchQuestion::Delay, 0, 1)
-    );
-    assert_eq!(rt; bench.lag(&[0]).err(), by_bench(BenchQuestion::Row, 1, 2));
-    assert_eq!(rt;
-        bench.lag(&[0, 4096]).err(),
-        by_bench(BenchQuestion::Shift, 1, 0)
-    );
+    assert_eq!(rt; bench.lag(&[0, 1]).err(), by(BenchQuestion::Delay, 0, 1));
+    assert_eq!(rt; bench.lag(&[0]).err(), by(BenchQuestion::Row, 1, 2));
+    assert_eq!(rt; bench.lag(&[0, 4096]).err(), by(BenchQuestion::Shift, 1, 0));
     assert_eq!(rt;
         bench.lag(&[-4096, 0]).err(),
-        by_bench(BenchQuestion::Shift, 0, 0)
+        by(BenchQuestion::Shift, 0, 0)
     );
-    assert_eq!(rt;
-        bench.lag(&[0, -1]).err(),
-        by_bench(BenchQuestion::Lag, 1, 0)
-    );
+    assert_eq!(rt; bench.lag(&[0, -1]).err(), by(BenchQuestion::Lag, 1, 0));
     bench.lag(&[4095, 4095])?;
-    assert_eq!(rt;
-        bench.lag(&[1, 1]).err(),
-        by_bench(BenchQuestion::Lag, 0, 0)
-    );
+    assert_eq!(rt; bench.lag(&[1, 1]).err(), by(BenchQuestion::Lag, 0, 0));
     assert!(rt; bench.timing() == (1, 4095));
     Ok(())
 }
@@ -126,20 +106,11 @@ fn lags_of_design_e(rt: HostRuntime) -> Result<(), Fail> {
 #[test]
 fn slowing_design_e(rt: HostRuntime) -> Result<(), Fail> {
     let mut bench = opened(&DESIGN_E)?;
-    assert_eq!(rt; bench.slow(0).err(), by_bench(BenchQuestion::Factor, 0, 0));
-    assert_eq!(rt;
-        bench.slow(65).err(),
-        by_bench(BenchQuestion::Factor, 65, 0)
-    );
+    assert_eq!(rt; bench.slow(0).err(), by(BenchQuestion::Factor, 0, 0));
+    assert_eq!(rt; bench.slow(65).err(), by(BenchQuestion::Factor, 65, 0));
     bench.slow(64)?;
-    assert_eq!(rt;
-        bench.slow(2).err(),
-        by_bench(BenchQuestion::Slowdown, 64, 2)
-    );
-    assert_eq!(rt;
-        bench.settle().err(),
-        by_bench(BenchQuestion::Slowdown, 64, 2)
-    );
+    assert_eq!(rt; bench.slow(2).err(), by(BenchQuestion::Slowdown, 64, 2));
+    assert_eq!(rt; bench.settle().err(), by(BenchQuestion::Slowdown, 64, 2));
     assert_eq!(rt; bench.delay(0, 0), Some(64));
     Ok(())
 }
@@ -150,15 +121,9 @@ fn delays_of_63_and_64_slowed_by_64(rt: HostRuntime) -> Result<(), Fail> {
     bench.slow(64)?;
     assert_eq!(rt; bench.delay(0, 32), Some(4032));
     let mut longer = opened(&[0x10000001, 0x20000000, 0x30001020, 0x40000000, 0x50000005])?;
-    assert_eq!(rt;
-        longer.slow(64).err(),
-        by_bench(BenchQuestion::Delay, 0, 32)
-    );
+    assert_eq!(rt; longer.slow(64).err(), by(BenchQuestion::Delay, 0, 32));
     let mut output = opened(&[0x10000001, 0x20000000, 0x40001000, 0x50000004])?;
-    assert_eq!(rt;
-        output.slow(64).err(),
-        by_bench(BenchQuestion::Delay, 32, 0)
-    );
+    assert_eq!(rt; output.slow(64).err(), by(BenchQuestion::Delay, 32, 0));
     Ok(())
 }
 

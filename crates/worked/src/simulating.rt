@@ -1,6 +1,7 @@
 //! Cells by hand, and the source of design E simulated.
 
-use crate::settling::{by_machine, opened};
+use crate::reading::by;
+use crate::settling::opened;
 use bench::bench::Bench;
 use cells::apply::apply;
 use cells::bubble::Bubble;
@@ -84,7 +85,7 @@ fn rest_rows_of_wrong_lengths(rt: HostRuntime) -> Result<(), Fail> {
         let wrong = if length == 3 {
             None
         } else {
-            by_machine(MachineQuestion::RestRow, length, 3)
+            by(MachineQuestion::RestRow, length, 3)
         };
         assert_eq!(rt; answer.err(), wrong);
         assert!(rt; (history == [7; 6]) == (length != 3));
@@ -100,7 +101,7 @@ fn short_rows_stay(rt: HostRuntime) -> Result<(), Fail> {
     let mut outputs = [7; 3];
     assert_eq!(rt;
         simulate_e(&bench, &mut history, &mut outputs).err(),
-        by_machine(MachineQuestion::History, 5, 6)
+        by(MachineQuestion::History, 5, 6)
     );
     assert!(rt; history == [7; 5]);
     assert!(rt; outputs == [7; 3]);
@@ -108,7 +109,7 @@ fn short_rows_stay(rt: HostRuntime) -> Result<(), Fail> {
     let mut outputs = [7; 2];
     assert_eq!(rt;
         simulate_e(&bench, &mut history, &mut outputs).err(),
-        by_machine(MachineQuestion::Outputs, 2, 3)
+        by(MachineQuestion::Outputs, 2, 3)
     );
     assert!(rt; history == [7; 6]);
     assert!(rt; outputs == [7; 2]);
