@@ -20,4 +20,3 @@ mod Moving
 mod Moved
 mod Writing
 mod Listings
-mod Rewrites

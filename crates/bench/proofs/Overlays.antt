@@ -1,10 +1,8 @@
 -- Laws of a buffer that is written over.
-use Rattle.std.proofs.Common.{◌≡◌, ℕ, ◌+◌, ◌<◌, ◌≤◌, List, ◌++◌, length, take, drop, is_ok, Ok, Err, Result, sym, ap, ◌∙◌, ⊎_elim, append_assoc, arith}
+use Rattle.std.proofs.Common.{◌≡◌, ℕ, ◌+◌, ◌≤◌, List, ◌++◌, length, take, drop, sym, ap, ◌∙◌, append_assoc, arith}
 use Rattle.std.proofs.lemmas.List.{length-append, length-take-le, take_at, drop_at, drop-drop}
 use borrow.Rule.Slice.PartMut.{put_mid}
-use Rattle.std.proofs.lemmas.Bool.{true≢false, cond-true, cond-false, lt-ltb, le-ltb, cases_lt}
-use Rattle.words.specs.declared.faults.Fault.{Fault}
-use Rattle.bench.specs.Buffers.{overlaid, Written}
+use Rattle.bench.specs.Buffers.{overlaid}
 
 module _ {X : Type 0} (b : List X) (at : ℕ) where
   module _ (xs : List X) where
@@ -31,31 +29,3 @@ module _ {X : Type 0} (b : List X) (at : ℕ) where
 -- a part of the buffer that is written over
 pub overlaid_part : {X : Type 0} (b ys : List X) (at n : ℕ) → length ys ≡ n → put_mid at n b ys ≡ overlaid b at ys
 overlaid_part b ys at n e = ap (λ r. take at b ++ (ys ++ r)) (drop-drop n at b ∙ ap (λ m. drop (at + m) b) (sym e))
-
--- the count in an answer
-count_in : Result ℕ Fault → ℕ
-count_in (Ok n) = n
-count_in (Err f) = 0
-
-pub ok_same : (m n : ℕ) → ◌≡◌ {A = Result ℕ Fault} (Ok m) (Ok n) → m ≡ n
-unfolding count_in
-ok_same m n e = ap count_in e
-
--- where the buffer is long enough
-module _ {X : Type 0} (items b a : List X) (r : Result ℕ Fault) (w : Written items b a r) (l : length items ≤ length b) where
-  pub written_answer : r ≡ Ok (length items)
-  written_answer = w.answer ∙ cond-false _ _ _ (le-ltb (length b) (length items) l)
-
-  pub written_buffer : a ≡ overlaid b 0 items
-  written_buffer = w.buffer ∙ cond-false _ _ _ (le-ltb (length b) (length items) l)
-
-  pub written_front : (n : ℕ) → n ≡ length items → take n a ≡ items
-  written_front n e = ap (take n) written_buffer ∙ take_at items (drop (0 + length items) b) n (sym e)
-
--- a buffer that was written to was long enough
-pub written_fits : {X : Type 0} (items b a : List X) (n : ℕ) → Written items b a (Ok n) → length items ≤ length b
-written_fits items b a n w =
-    ⊎_elim
-    (λ (l : length b < length items). absurd (true≢false (ap is_ok (w.answer ∙ cond-true _ _ _ (lt-ltb (length b) (length items) l)))))
-    (λ (l : length items ≤ length b). l)
-    (cases_lt (length b) (length items))
