@@ -3,8 +3,8 @@
 
     python3 tools/word_cases.py DIR
 
-writes DIR/stdin, one input a line as hexadecimal bytes, and DIR/stdout, what
-the console prints for each.  The reader and the writer below are made from
+writes DIR/stdin, one input a line as hexadecimal bytes, and DIR/stdout, the
+design's words or the refusal of each.  The reader and the writer below are made from
 the following format alone, so that another reader can be held against them.
 
 A design has n nodes, 1 to 32, numbered from 0.  A node has an operation, 0 to
@@ -217,7 +217,7 @@ def read(words: Words) -> Design:
 
 
 def taken_words(data: bytes) -> Words:
-    """The words the console sees: what lies past the limit is not looked at."""
+    """The words of an input: what lies past the limit is not looked at."""
     taken = data[:TAKEN]
     whole, left = divmod(len(taken), 4)
     ask(1, whole, left == 0)
@@ -267,7 +267,7 @@ def answer_to(data: bytes) -> Answer:
 
 
 def printed(data: bytes, answer: Answer) -> Iterator[str]:
-    """The console's lines, an accepted design written out anew."""
+    """The lines of an answer, an accepted design written out anew."""
     if answer == ACCEPTED:
         yield from (f"{word:08X}\n" for word in write(read(taken_words(data))))
     else:

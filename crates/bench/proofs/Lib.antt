@@ -19,4 +19,5 @@ pub mod Outcomes
 mod Moving
 mod Moved
 mod Writing
+mod Programming
 mod Listings

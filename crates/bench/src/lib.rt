@@ -13,6 +13,7 @@ mod moves;
 mod opening;
 pub mod order;
 pub mod program;
+pub mod programmed;
 mod retimed;
 pub mod retiming;
 pub mod rewriting;

@@ -1,10 +1,10 @@
-//! The console: a design in on standard input, its words out, one a line, or one refusal line.
+//! The console: a design in on standard input, its array program out, one word a line, or one refusal line.
 #![tactic(auto)]
 
 ghost use Rattle.std.specs.Prelude.{◌≡◌, take, IfOk, IfSome};
 
 use arrayvec::ArrayVec;
-use bench::inputs::{MAX_TEXT, list_input};
+use bench::programmed::{MAX_PROGRAM_TEXT, list_program};
 use std::io;
 use std::io::{Read, Write};
 use std::process::ExitCode;
@@ -19,11 +19,11 @@ fn read_input<R: Read + Drop>(input: R) -> io::Result<ArrayVec<u8, MAX_BYTES>>
     Ok(bytes)
 }
 
-/// Lists the design on standard input, or prints its refusal, and answers the exit status.
+/// Settles the design on standard input and lists its array program, or prints a refusal, and answers the exit status.
 fn run<R: Input + Print>(rt: &R) -> io::Result<ExitCode> {
     let bytes = read_input(rt.reader())?;
-    let mut text = [0; MAX_TEXT];
-    match list_input(&bytes, &mut text) {
+    let mut text = [0; MAX_PROGRAM_TEXT];
+    match list_program(&bytes, &mut text) {
         Ok(length) => {
             io::writer(rt).write_all(&text[..length])?;
             Ok(ExitCode::SUCCESS)
