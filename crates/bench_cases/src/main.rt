@@ -5,10 +5,10 @@ use anyhow::Context;
 use bench::bench::Bench;
 use bench::program::MAX_PROGRAM_WORDS;
 use cases::designs::parse_design;
-use cases::lines::print_cases;
 use cases::moves::Move;
-use cases::rows::{Bits, print_row};
+use cases::printing::{Bits, Row};
 use std::io;
+use std::io::{BufRead, BufReader};
 use words::faults::{DesignFault, Fault};
 use words::graph::MAX_NODES;
 
@@ -16,15 +16,20 @@ use words::graph::MAX_NODES;
 const ASKED: usize = 40;
 
 /// Prints a cycle from its lowest node on.
-fn print_cycle(rt: &impl Print, cycle: &[u8]) -> io::Result<()> {
+fn print_cycle<R: AllocGlobal + Print>(rt: &R, cycle: &[u8]) -> io::Result<()> {
     let lowest = cycle.iter().enumerate().min_by_key(|(_, node)| **node);
     let start = lowest.map_or(0, |(place, _)| place);
     let (behind, ahead) = (cycle.iter().take(start), cycle.iter().skip(start));
-    print_row(rt, "cycle", ahead.chain(behind))
+    let nodes: Vec<u8> = ahead.chain(behind).copied().collect(rt.alloc())?;
+    println!(rt; "{}", Row("cycle", &nodes))
 }
 
 /// Prints why a design was refused, and the cycle that was shown.
-fn print_unopened(rt: &impl Print, fault: Fault, buffer: &[u8]) -> anyhow::Result<()> {
+fn print_unopened<R: AllocGlobal + Print>(
+    rt: &R,
+    fault: Fault,
+    buffer: &[u8],
+) -> anyhow::Result<()> {
     println!(rt; "{fault}")?;
     let Fault::Design(DesignFault { place, .. }) = fault else {
         return Ok(());
@@ -34,9 +39,11 @@ fn print_unopened(rt: &impl Print, fault: Fault, buffer: &[u8]) -> anyhow::Resul
     Ok(())
 }
 
-fn print_lags(rt: &impl Print, bench: &Bench) -> io::Result<()> {
-    let lags = (0..ASKED).filter_map(|node| bench.lag_of(node));
-    print_row(rt, "lags", lags)
+fn print_lags<R: AllocGlobal + Print>(rt: &R, bench: &Bench) -> io::Result<()> {
+    let lags: Vec<u16> = (0..ASKED)
+        .filter_map(|node| bench.lag_of(node))
+        .collect(rt.alloc())?;
+    println!(rt; "{}", Row("lags", &lags))
 }
 
 fn print_delays(rt: &impl Print, bench: &Bench) -> io::Result<()> {
@@ -51,14 +58,13 @@ fn print_delays(rt: &impl Print, bench: &Bench) -> io::Result<()> {
 }
 
 /// Prints the nodes in firing order, then each node's rank.
-fn print_order(rt: &impl Print, bench: &Bench) -> io::Result<()> {
+fn print_order<R: AllocGlobal + Print>(rt: &R, bench: &Bench) -> io::Result<()> {
     let order = bench.order();
-    print_row(rt, "order", order.nodes().iter())?;
-    print_row(
-        rt,
-        "ranks",
-        (0..ASKED).filter_map(|node| order.rank_of(node)),
-    )
+    println!(rt; "{}", Row("order", order.nodes()))?;
+    let ranks: Vec<u8> = (0..ASKED)
+        .filter_map(|node| order.rank_of(node))
+        .collect(rt.alloc())?;
+    println!(rt; "{}", Row("ranks", &ranks))
 }
 
 fn print_verdict(rt: &impl Print, bench: &Bench) -> io::Result<()> {
@@ -68,15 +74,22 @@ fn print_verdict(rt: &impl Print, bench: &Bench) -> io::Result<()> {
     }
 }
 
-fn print_program(rt: &impl Print, bench: &Bench) -> io::Result<()> {
+fn print_program<R: AllocGlobal + Print>(rt: &R, bench: &Bench) -> io::Result<()> {
     let mut words = [0; MAX_PROGRAM_WORDS];
     match bench.emit(&mut words) {
-        Ok(count) => print_row(rt, "program", words[..count].iter().copied().map(Bits)),
+        Ok(count) => {
+            let words: Vec<Bits> = words[..count]
+                .iter()
+                .copied()
+                .map(Bits)
+                .collect(rt.alloc())?;
+            println!(rt; "{}", Row("program", &words))
+        }
         Err(fault) => println!(rt; "program {fault}"),
     }
 }
 
-fn print_bench(rt: &impl Print, bench: &Bench) -> io::Result<()> {
+fn print_bench<R: AllocGlobal + Print>(rt: &R, bench: &Bench) -> io::Result<()> {
     let (factor, latency) = bench.timing();
     println!(rt; "timing {factor} {latency}")?;
     print_lags(rt, bench)?;
@@ -114,5 +127,10 @@ fn print_case<R: AllocGlobal + Print>(rt: &R, line: &str) -> anyhow::Result<()> 
 }
 
 fn main(rt: HostRuntime) -> anyhow::Result<()> {
-    print_cases(&rt, |line| print_case(&rt, line))
+    let lines = BufReader::new(rt.alloc(), rt.reader())?.lines(rt.alloc());
+    for (number, line) in lines.enumerate() {
+        println!(rt; "case {number}")?;
+        print_case(&rt, line?.as_str())?;
+    }
+    Ok(())
 }

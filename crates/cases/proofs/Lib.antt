@@ -1,1 +1,2 @@
 mod ItemLemmas
+mod TextLemmas

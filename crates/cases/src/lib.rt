@@ -1,9 +1,9 @@
-//! What the case programs share: lines of cases, the designs and moves in them, and rows of what is printed.
+//! What the case programs share: the designs and moves in their lines, and rows of what they print.
 #![tactic(auto)]
 
 pub mod designs;
-pub mod lines;
 pub mod moves;
-pub mod rows;
+pub mod printing;
+mod rows;
 #[cfg(test)]
 mod tests;

@@ -1,7 +1,8 @@
-//! A design and its moves, read from text.
+//! A design and its moves, read from text, and rows as text.
 
 use crate::designs::parse_design;
 use crate::moves::Move;
+use crate::printing::{Bits, Row};
 use bench::bench::Bench;
 use std::test::Fail;
 use words::graph::MAX_NODES;
@@ -33,4 +34,13 @@ fn other_texts_are_errors(rt: HostRuntime) {
     assert!(rt; Move::parse(rt.alloc(), "slow").is_err());
     assert!(rt; Move::parse(rt.alloc(), "settle 2").is_err());
     assert!(rt; Move::parse(rt.alloc(), "lag 1 x").is_err());
+}
+
+#[test]
+fn rows_are_printed(rt: HostRuntime) -> Result<(), Fail> {
+    let row = format!(in rt.alloc(); "{}", Row("program", &[Bits(0x80000082), Bits(10)]))?;
+    assert!(rt; row.as_str() == "program 80000082 0000000A");
+    let row = format!(in rt.alloc(); "{}", Row::<u8>("out", &[]))?;
+    assert!(rt; row.as_str() == "out");
+    Ok(())
 }

@@ -1,6 +1,6 @@
 //! The elements of a case: read from a line, filled into the buffers and printed.
 
-use cases::rows::Bits;
+use cases::printing::Bits;
 use std::fmt;
 use std::num::{f32_from_bits_with_nan, f32_to_bits_with_nan};
 

@@ -10,13 +10,13 @@ use crate::element::{Element, Shown};
 use crate::rows::{fillers_from, read_row};
 use anyhow::bail;
 use bench::bench::Bench;
-use cases::lines::print_cases;
-use cases::rows::print_row;
+use cases::printing::Row;
 use cells::bubble::Bubble;
 use cells::compare::CompareCells;
 use cells::library::CellLibrary;
 use machine::simulator::simulate;
 use std::io;
+use std::io::{BufRead, BufReader};
 
 /// Of a longer run only so many times are printed, the last ones.
 const MAX_SHOWN: usize = 300;
@@ -32,14 +32,16 @@ struct Run<'a, E> {
 
 impl<E: Element> Run<'_, E> {
     /// Prints the nodes' values at the last times, then the outputs.
-    fn print_values(self, rt: &impl Print) -> io::Result<()> {
+    fn print_values<R: AllocGlobal + Print>(self, rt: &R) -> io::Result<()> {
         let hidden = self.times.saturating_sub(MAX_SHOWN);
         let history = self.history.chunks(self.count.max(1)).take(self.times);
         for values in history.skip(hidden) {
-            print_row(rt, "v", values.iter().copied().map(Shown))?;
+            let values: Vec<Shown<E>> = values.iter().copied().map(Shown).collect(rt.alloc())?;
+            println!(rt; "{}", Row("v", &values))?;
         }
         let outputs = self.outputs.iter().copied().take(self.times);
-        print_row(rt, "out", outputs.skip(hidden).map(Shown))
+        let outputs: Vec<Shown<E>> = outputs.skip(hidden).map(Shown).collect(rt.alloc())?;
+        println!(rt; "{}", Row("out", &outputs))
     }
 
     /// Prints how many places that the run was not to write still have the filler.
@@ -122,5 +124,10 @@ fn print_case<R: AllocGlobal + Print>(rt: &R, line: &str) -> anyhow::Result<()> 
 }
 
 fn main(rt: HostRuntime) -> anyhow::Result<()> {
-    print_cases(&rt, |line| print_case(&rt, line))
+    let lines = BufReader::new(rt.alloc(), rt.reader())?.lines(rt.alloc());
+    for (number, line) in lines.enumerate() {
+        println!(rt; "case {number}")?;
+        print_case(&rt, line?.as_str())?;
+    }
+    Ok(())
 }
