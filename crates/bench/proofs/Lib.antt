@@ -19,5 +19,5 @@ pub mod Outcomes
 mod Moving
 mod Moved
 mod Writing
-mod Programming
+mod Reading
 mod Listings

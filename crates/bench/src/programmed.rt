@@ -4,12 +4,11 @@ ghost use Rattle.std.specs.Prelude.{◌≤◌, length, IfOk};
 ghost use Rattle.bench.specs.Answer.{Programmed};
 
 use crate::bench::Bench;
+use crate::inputs::read_bytes;
 use crate::listing::LINE;
 use crate::program::MAX_PROGRAM_WORDS;
 use words::faults::Fault;
 use words::graph::MAX_NODES;
-use words::input::InputWords;
-use words::reader::read_design;
 
 /// How many bytes the longest listing of an array program has.
 pub const MAX_PROGRAM_TEXT: usize = MAX_PROGRAM_WORDS * LINE;
@@ -19,8 +18,7 @@ pub fn list_program(bytes: &[u8], text: &mut [u8]) -> Result<usize, Fault>
     ensures answered { Programmed bytes.now text.old text.new result }
     ensures within { IfOk result (λ n. n ≤ length text.new) }
 {
-    let input = InputWords::try_from(bytes)?;
-    let design = read_design(input.as_slice())?;
+    let design = read_bytes(bytes)?;
     let mut bench = Bench::open(&design, &mut [0; MAX_NODES])?;
     bench.settle()?;
     bench.list(text)
