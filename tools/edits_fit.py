@@ -10,10 +10,9 @@ from pathlib import Path
 
 def parts(edit):
     """The edit's pairs: a file, a text in it and what replaces it."""
-    lines = [line.split(":", 1) for line in edit.read_text().splitlines() if line.strip()]
+    lines = [line.split(": ", 1) for line in edit.read_text().splitlines() if line.strip()]
     file = old = None
     for key, text in lines:
-        text = text.strip()
         if key == "file":
             file = text
         elif key == "old":
