@@ -1,6 +1,7 @@
 -- What a list of calls amounts to.
-use Rattle.std.proofs.Common.{◌≡◌, ℕ, zero, suc, ◌+◌, ◌*◌, ◌<◌, ◌≤◌, Bool, true, false, cond, leb, List, [], ◌∷◌, length, get_or, drop, ℤ, pos, negsuc, ◌+ℤ◌, ◌*ℤ◌, is_some, is_ok, Some, None, Option, sym, refl, ap, ◌∙◌, ap₂, add-zero, add-one, mul_assoc, mul_comm, mul-one, arith}
+use Rattle.std.proofs.Common.{◌≡◌, ℕ, zero, suc, ◌+◌, ◌*◌, ◌<◌, ◌≤◌, Bool, true, false, cond, leb, List, [], ◌∷◌, length, get_or, drop, ℤ, pos, negsuc, ◌+ℤ◌, ◌*ℤ◌, is_some, is_ok, Some, None, Option, Ok, Result, subst, sym, refl, ap, ◌∙◌, ap₂, add-zero, add-one, mul_assoc, mul_comm, mul-one, arith}
 use lib.IntN.{+ℤ_assoc, +ℤ_comm, zero-*ℤ, suc_ℤ-*ℤ}
+use Rattle.std.specs.Option.{option_or}
 use Rattle.std.proofs.lemmas.List.{drop_more, drop_all}
 use Rattle.std.proofs.lemmas.Bool.{true≢false, false≢true}
 use Rattle.words.specs.declared.faults.Fault.{Fault}
@@ -9,8 +10,9 @@ use Rattle.words.specs.Designs.{max_nodes}
 use Rattle.bench.specs.declared.calls.Call.{Call}
 use Rattle.bench.specs.declared.calls.Call.TheVariants.{Lag, Slow, Settle}
 use Rattle.bench.specs.declared.retiming.Retiming.{Retiming}
-use Rattle.bench.specs.Calls.{call_fault, Move, counts_as, after, ended, if_accepted, moves, product, shifted, Law}
+use Rattle.bench.specs.Calls.{call_fault, Move, counts_as, after, ended, if_accepted, moves, product, shifted, Law, last_accepted, if_kept}
 use Rattle.bench.specs.Moves.{moved, moved_lag, natural, is_lag, lags_fault, delays_fault, move_fault, made_fault, slow_fault, shifts_fault, lag_fault, settle_fault, ranks}
+use Rattle.bench.specs.Verdicts.{C1Holds, C2Holds}
 use Rattle.bench.specs.Refusals.{lag_out, unless, unless_kept}
 use Rattle.bench.specs.Retimings.{lag_at}
 use Rattle.bench.proofs.Moved.{passed, lag_moved}
@@ -119,6 +121,17 @@ pub none_more : (o : Option Fault) (m : Move) (ms : List Move) → is_ok (unless
 none_more None m ms h = absurd (true≢false h)
 none_more (Some f) m ms h = refl
 
+-- the last accepted call, one call on: an accepted one may be the last
+pub last_more : (g : Graph) (p : Retiming) (cs : List Call) (k : ℕ) (d : Call) → k < length cs → (o : Option Call)
+    → option_or (last_accepted g p (drop k cs)) o
+    ≡ option_or (last_accepted g (after g p (get_or cs k d)) (drop (k + 1) cs)) (option_or (if_kept (call_fault g p (get_or cs k d)) (get_or cs k d)) o)
+unfolding last_accepted
+last_more g p cs k d l o = ap (λ x. option_or x o) (ap (last_accepted g p) (drop_more cs k d l)) ∙ option_or-assoc (last_accepted g (after g p (get_or cs k d)) (drop (k + 1) cs)) _ o
+  where
+    option_or-assoc : (a b c : Option Call) → option_or (option_or a b) c ≡ option_or a (option_or b c)
+    option_or-assoc None b c = refl
+    option_or-assoc (Some x) b c = refl
+
 -- nothing is left
 pub ended_all : (g : Graph) (p : Retiming) (cs : List Call) (k : ℕ) → length cs ≤ k → ended g p (drop k cs) ≡ p
 unfolding ended
@@ -127,3 +140,21 @@ ended_all g p cs k l = ap (ended g p) (drop_all k cs l)
 pub moves_all : (g : Graph) (p : Retiming) (cs : List Call) (k : ℕ) → length cs ≤ k → length (moves g p (drop k cs)) ≡ 0
 unfolding moves
 moves_all g p cs k l = ap (λ x. length (moves g p x)) (drop_all k cs l)
+
+-- where the last accepted call is settle, the bench is systolic: it was this call, or one before it and this one was refused
+pub last_settles : (g : Graph) (p : Retiming) (c : Call) (last : Option Call) (r : Result (Unit {0}) Fault) (q : Retiming) → r ≡ unless (call_fault g p c) tt → q ≡ after g p c
+    → (c ≡ Settle → r ≡ Ok tt → C1Holds g q × C2Holds g q) → (last ≡ Some Settle → C1Holds g p × C2Holds g p)
+    → option_or (if_kept (call_fault g p c) c) last ≡ Some Settle → C1Holds g q × C2Holds g q
+last_settles g p c last r q answer state here before = by (call_fault g p c) answer state
+  where
+    by : (o : Option Fault) → r ≡ unless o tt → q ≡ unless_kept o (moved p (counts_as g p c).factor (counts_as g p c).shifts) p
+        → option_or (if_kept o c) last ≡ Some Settle → C1Holds g q × C2Holds g q
+    by None accepted to settle = here (same settle) accepted
+      where
+        same : ◌≡◌ {A = Option Call} (Some c) (Some Settle) → c ≡ Settle
+        same s = cc
+    by (Some f) refused to settle = let kept = before settle in (subst (C1Holds g) (sym to) kept.0, subst (C2Holds g) (sym to) kept.1)
+
+pub last_all : (g : Graph) (p : Retiming) (cs : List Call) (k : ℕ) → length cs ≤ k → last_accepted g p (drop k cs) ≡ None
+unfolding last_accepted
+last_all g p cs k l = ap (last_accepted g p) (drop_all k cs l)

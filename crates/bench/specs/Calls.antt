@@ -1,5 +1,6 @@
 -- Lists of lag, slow and settle, and what they amount to.
 use Rattle.std.specs.Prelude.{◌≡◌, ℕ, ◌*◌, ◌<◌, List, [], ◌∷◌, ℤ, pos, ◌+ℤ◌, ◌*ℤ◌, Some, None, Option, slice_index_or}
+use Rattle.std.specs.Option.{option_or}
 use Rattle.words.specs.declared.faults.Fault.{Fault}
 use Rattle.words.specs.declared.graph.Graph.{Graph}
 use Rattle.bench.specs.declared.retiming.Retiming.{Retiming}
@@ -42,6 +43,15 @@ if_accepted (Some f) m ms = ms
 unfoldable pub moves : Graph → Retiming → List Call → List Move
 moves g p [] = []
 moves g p (c ∷ cs) = if_accepted (call_fault g p c) (counts_as g p c) (moves g (after g p c) cs)
+
+abbrev pub if_kept : Option Fault → Call → Option Call
+if_kept None c = Some c
+if_kept (Some f) c = None
+
+-- the last of the calls that was accepted, if one was
+unfoldable pub last_accepted : Graph → Retiming → List Call → Option Call
+last_accepted g p [] = None
+last_accepted g p (c ∷ cs) = option_or (last_accepted g (after g p c) cs) (if_kept (call_fault g p c) c)
 
 -- the product of the factors
 unfoldable pub product : List Move → ℕ
