@@ -1,14 +1,14 @@
 -- The steps of emitting a program.
-use Rattle.std.proofs.Common.{◌≡◌, ℕ, zero, suc, ◌+◌, ◌<◌, ◌≤◌, Bool, true, false, cond, eqb, max, ◌⊎◌, ◌*◌, List, [], ◌∷◌, ◌++◌, length, get_or, Some, None, Option, unwrap_or, sym, refl, ap, ◌∙◌, subst, inl, inr, ⊎_elim, add-one, add-zero, arith}
-use Rattle.std.specs.List.{cons_option, filter_map, fold, range_with_len}
+use Rattle.std.proofs.Common.{◌≡◌, ℕ, zero, suc, ◌+◌, ◌<◌, ◌≤◌, Bool, true, false, cond, eqb, max, ◌⊎◌, ◌*◌, List, [], ◌∷◌, ◌++◌, length, get_or, Some, None, Option, unwrap_or, sym, refl, ap, ◌∙◌, subst, inl, inr, ⊎_elim, add-one, arith}
+use Rattle.std.specs.Option.{option_map}
 use Rattle.std.proofs.lemmas.List.{append-nil, length-append}
 use Rattle.std.proofs.lemmas.Bool.{cases_lt, cases_eq, cond-true, cond-false, eq-eqb, ne_eqb}
 use Rattle.words.specs.declared.graph.Graph.{Graph}
-use Rattle.words.specs.Designs.{InRange, input}
+use Rattle.words.specs.Designs.{InRange, feed_at, input}
 use Rattle.words.specs.Programs.{line_word}
 use Rattle.bench.specs.declared.retiming.Retiming.{Retiming}
 use Rattle.bench.specs.Programs.{in_turn, line_at, tap_if, taps, cell, cells, output_reach, reach, line_length, Reaches}
-use Rattle.bench.specs.Retimings.{Sound, order, current_delay, output_delay, max_delay}
+use Rattle.bench.specs.Retimings.{Sound, order, current_delay, delay_of, output_delay, max_delay}
 use Rattle.bench.proofs.Settled.{fed}
 use Rattle.bench.proofs.Soundness.{feed_inside}
 use Rattle.bench.proofs.Writing.{appended}
@@ -64,17 +64,14 @@ module _ (g : Graph) (p : Retiming) (j : ℕ) where
   reach_first n e = e
 
   -- one node more
-  reach_more : (a : ℕ) (o : Option ℕ) (later : List ℕ) → current_delay g p a j ≡ o → fold max (reach g p j a) (cons_option o later) ≡ fold max (reach g p j (suc a)) later
+  pub reach_some : (k a : ℕ) → feed_at g k j ≡ Some a → max (reach g p j k) (delay_of p k j a) ≡ reach g p j (k + 1)
   unfolding reach
-  reach_more a None later e = ap (λ r. fold max r later) (omega (arith, ap (λ o. unwrap_or o 0) e))
-  reach_more a (Some d) later e = ap (λ r. fold max r later) (ap (λ o. max (reach g p j a) (unwrap_or o 0)) (sym e))
+  reach_some k a e = ap (λ o. max (reach g p j k) (unwrap_or (option_map (delay_of p k j) o) 0)) (sym e) ∙ ap (reach g p j) (sym (add-one k))
 
-  -- n nodes more, from node a on
-  pub reach_over : (a n : ℕ) → fold max (reach g p j a) (filter_map (λ i. current_delay g p i j) (range_with_len a n)) ≡ reach g p j (a + n)
-  reach_over a zero = ap (reach g p j) (sym (add-zero a))
-  reach_over a (suc n) =
-      let later : List ℕ = filter_map (λ i. current_delay g p i j) (range_with_len (a + 1) n) in
-      reach_more a (current_delay g p a j) later refl ∙ ap (λ k. fold max (reach g p j k) later) (sym (add-one a)) ∙ reach_over (a + 1) n ∙ ap (reach g p j) {x = a + 1 + n} {y = a + suc n} (omega arith)
+  pub reach_none : (k : ℕ) → feed_at g k j ≡ None → reach g p j k ≡ reach g p j (k + 1)
+  unfolding reach
+  reach_none k e =
+      omega (arith, ap (λ o. unwrap_or (option_map (delay_of p k j) o) 0) e) ∙ ap (reach g p j) (sym (add-one k))
 
 pub delay_few : (g : Graph) → InRange g → (p : Retiming) → Sound g p → (i j d : ℕ) → current_delay g p i j ≡ Some d → d ≤ max_delay
 delay_few g r p s i j d e =

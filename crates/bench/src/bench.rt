@@ -1,6 +1,7 @@
 //! The bench: a well-defined design with its retiming.
 
 ghost use Rattle.std.specs.Prelude.{◌≡◌, ◌<◌, length, if◌then◌else◌, Some, None, nat_lt};
+ghost use Rattle.bench.specs.Cycles.{WellDefined};
 ghost use Rattle.bench.specs.Retimings.{Sound, order, at_rest, current_delay, output_delay, latency, lag_at};
 
 use crate::retimed::Retimed;
@@ -28,9 +29,10 @@ impl Bench {
         }
     }
 
-    /// The design it was opened on.
+    /// The design it was opened on, which is well-defined.
     pub fn design(&self) -> &Design
-        ensures { result.now ≡ self.now.design }
+        ensures design { result.now ≡ self.now.design }
+        ensures well_defined { WellDefined result.now.graph }
     {
         &self.design
     }

@@ -20,14 +20,18 @@ impl Bench {
     fn line_length(&self, source: usize) -> u16
         ensures { result ≡ line_length self.now.design.graph self.now.retiming source }
     {
-        let read_out = if self.design.output().node == source {
+        let retimed = self.retimed();
+        let mut length = if self.design.output().node == source {
             self.output_delay()
         } else {
             0
         };
-        (0..self.design.count())
-            .filter_map(|node| self.delay(node, source))
-            .fold(read_out, u16::max)
+        for (node, row) in self.design.nodes().iter().enumerate() {
+            if let Some(delay) = row.feeds.get(source).copied().flatten() {
+                length = length.max(retimed.delay_of(node, source, delay));
+            }
+        }
+        length
     }
 
     /// The line of one source.

@@ -1,7 +1,8 @@
 //! A design under a retiming: its current delays.
 
-ghost use Rattle.std.specs.Prelude.{◌≡◌, ◌*◌, ◌^◌, ◌<◌, ◌≤◌};
-ghost use Rattle.bench.specs.Retimings.{Sound, waits, at_rest, ahead, current_delay, lag_at, source_lag, max_factor};
+ghost use Rattle.std.specs.Prelude.{◌≡◌, ◌*◌, ◌^◌, ◌<◌, ◌≤◌, Some};
+ghost use Rattle.words.specs.Designs.{feed_at};
+ghost use Rattle.bench.specs.Retimings.{Sound, waits, at_rest, ahead, delay_of, current_delay, lag_at, source_lag, max_factor};
 
 use crate::retiming::{NodeRecord, Retiming};
 use words::design::Design;
@@ -35,8 +36,16 @@ impl<'a> Retimed<'a> {
         ensures { result ≡ current_delay self.now.design.now.graph self.now.retiming node source }
     {
         let delay = self.design.feed(node, source)?;
+        Some(self.delay_of(node, source, delay))
+    }
+
+    /// The current delay of a feed whose delay in the design is known.
+    pub(crate) fn delay_of(&self, node: usize, source: usize, delay: u8) -> u16
+        requires { feed_at self.now.design.now.graph node source ≡ Some delay }
+        ensures { result ≡ delay_of self.now.retiming node source delay }
+    {
         let ahead = self.retiming.ahead(node, delay);
-        Some((ahead - self.retiming.lag(source)) as u16)
+        (ahead - self.retiming.lag(source)) as u16
     }
 
     /// Whether a node hears another at current delay 0.

@@ -51,7 +51,7 @@ accepted g m rest inputs before after outputs_before outputs_after none simulate
 
 pub invariant_of-moment-clause-few : goal.invariant_of-moment-clause-few
 invariant_of-moment-clause-few g c =
-    omega (arith, (ranges c.args.bench.now.design.graph c.args.bench.now.design.sound).few, c.count-count.ensures, ap (λ (x : Design). x.graph.count) c.design-design.ensures)
+    omega (arith, (ranges c.args.bench.now.design.graph c.args.bench.now.design.sound).few, c.count-count.ensures, ap (λ (x : Design). x.graph.count) c.design-design.ensures.design)
 
 pub hears-requires-clause-source : goal.hears-requires-clause-source
 hears-requires-clause-source g c =
@@ -61,8 +61,8 @@ hears-requires-clause-source g c =
       (ranges c.args.bench.now.design.graph c.args.bench.now.design.sound).output_node,
       c.count-count.ensures,
       ap (λ (o : Output). o.node) c.output-output.ensures,
-      ap (λ (x : Design). x.graph.count) c.design-design.ensures,
-      ap (λ (x : Design). x.graph.output.node) c.design-design.ensures,
+      ap (λ (x : Design). x.graph.count) c.design-design.ensures.design,
+      ap (λ (x : Design). x.graph.output.node) c.design-design.ensures.design,
     ))
 
 pub loop-time-preserved : goal.loop-time-preserved
@@ -74,8 +74,8 @@ loop-time-preserved g c =
     let T = length c.args.inputs.now in
     let t = c.loop-time.time in
     let h = c.fire.new.history in
-    let n : c.count-count.result ≡ graph.count = c.count-count.ensures ∙ ap (λ (x : Design). x.graph.count) c.design-design.ensures in
-    let out : c.output-output.result ≡ graph.output = c.output-output.ensures ∙ ap (λ (x : Design). x.graph.output) c.design-design.ensures in
+    let n : c.count-count.result ≡ graph.count = c.count-count.ensures ∙ ap (λ (x : Design). x.graph.count) c.design-design.ensures.design in
+    let out : c.output-output.result ≡ graph.output = c.output-output.ensures ∙ ap (λ (x : Design). x.graph.output) c.design-design.ensures.design in
     record {
       same = cc;
       past_history = subst (λ k. drop (k * T) h ≡ drop (k * T) c.loop-time.history) n c.fire.ensures.past ∙ c.loop-time.invariant.past_history;
@@ -96,7 +96,7 @@ returns-clause-values g c =
     let graph = c.args.bench.now.design.graph in
     let range = ranges graph c.args.bench.now.design.sound in
     let ranked = c.of-plan.ensures.ranked in
-    let n : c.count-count.result ≡ graph.count = c.count-count.ensures ∙ ap (λ (x : Design). x.graph.count) c.design-design.ensures in
+    let n : c.count-count.result ≡ graph.count = c.count-count.ensures ∙ ap (λ (x : Design). x.graph.count) c.design-design.ensures.design in
     let T = length c.args.inputs.now in
     let room : length (take T c.args.outputs.now) ≡ T = length-take-le T c.args.outputs.now c.in_ok-ask_lengths.ensures.outputs in
     let all : c.loop-time.time ≡ T = omega (arith, c.loop-time-test.false, c.loop-time.auto.time-end, room) in

@@ -11,6 +11,15 @@ use Rattle.bench.proofs.bench.Bench.put_cells.Goals as goal
 pub loop-node-init : goal.loop-node-init
 loop-node-init c = turn_none _ _
 
+-- this stands before what `put_cell` asks for, so that the check names a wrong cell first by the words that it spoils
+pub loop-node-preserved : goal.loop-node-preserved
+loop-node-preserved c =
+    let g : Graph = c.args.self.now.design.graph in
+    let p : Retiming = c.args.self.now.retiming in
+    let k : ℕ = c.loop-node.node-index in
+    let node : c.from.result ≡ get_or (order g p) k 0 = search rules in
+    turn_more (λ r. cell g p (get_or (order g p) r 0)) c.args.program.now.items k c.loop-node.invariant (c.put_cell.ensures ∙ ap (λ i. c.loop-node.program.items ++ cell g p i) node)
+
 pub put_cell-requires : goal.put_cell-requires
 put_cell-requires c =
     let g : Graph = c.args.self.now.design.graph in
@@ -24,11 +33,3 @@ put_cell-requires c =
       room = omega (arith, c.requires, (ranges g c.args.self.now.design.sound).few, here, fires.whole);
       node = subst (λ i. i < g.count) node (fires.only (get_or o k 0) (has_at o k here));
     }
-
-pub loop-node-preserved : goal.loop-node-preserved
-loop-node-preserved c =
-    let g : Graph = c.args.self.now.design.graph in
-    let p : Retiming = c.args.self.now.retiming in
-    let k : ℕ = c.loop-node.node-index in
-    let node : c.from.result ≡ get_or (order g p) k 0 = search rules in
-    turn_more (λ r. cell g p (get_or (order g p) r 0)) c.args.program.now.items k c.loop-node.invariant (c.put_cell.ensures ∙ ap (λ i. c.loop-node.program.items ++ cell g p i) node)
