@@ -31,17 +31,17 @@ loop = record { count = 1; nodes = node 0 (Some 0 ∷ []) 31 None ∷ replicate 
 abbrev pub words_of_loop : List ℕ
 words_of_loop = 0x10000001 ∷ 0x20000000 ∷ 0x30000000 ∷ 0x40000000 ∷ 0x50000005 ∷ []
 
--- an FIR filter: node i hears node i + 1 at delay 0 and the input at delay 3 − i
+-- an FIR filter of operations 0 to 3: node i hears node i + 1 at delay 0, if there is one, and the input at delay 3 − i
 abbrev pub fir : Graph
 fir = record {
   count = 4;
   nodes =
-      node 0 (None ∷ Some 0 ∷ []) 30 (Some 3) ∷ node 0 (None ∷ None ∷ Some 0 ∷ []) 29 (Some 2) ∷ node 0 (None ∷ None ∷ None ∷ Some 0 ∷ []) 28 (Some 1) ∷ node 0 [] 32 (Some 0)
+      node 0 (None ∷ Some 0 ∷ []) 30 (Some 3) ∷ node 1 (None ∷ None ∷ Some 0 ∷ []) 29 (Some 2) ∷ node 2 (None ∷ None ∷ None ∷ Some 0 ∷ []) 28 (Some 1) ∷ node 3 [] 32 (Some 0)
       ∷ replicate 28 blank;
   output = record { node = 0; delay = 0 };
 }
 
 abbrev pub words_of_fir : List ℕ
 words_of_fir =
-    0x10000004 ∷ 0x20000000 ∷ 0x30000001 ∷ 0x300000E0 ∷ 0x20000001 ∷ 0x30000002 ∷ 0x300000A0 ∷ 0x20000002 ∷ 0x30000003 ∷ 0x30000060 ∷ 0x20000003 ∷ 0x30000020 ∷ 0x40000000
+    0x10000004 ∷ 0x20000000 ∷ 0x30000001 ∷ 0x300000E0 ∷ 0x20000021 ∷ 0x30000002 ∷ 0x300000A0 ∷ 0x20000042 ∷ 0x30000003 ∷ 0x30000060 ∷ 0x20000063 ∷ 0x30000020 ∷ 0x40000000
     ∷ 0x5000000E ∷ []
