@@ -7,7 +7,7 @@ use Rattle.words.specs.declared.graph.Graph.{Graph}
 use Rattle.words.specs.Designs.{NodeInRange, InRange, node_at, blank, absent, byte, is_source, sources, max_nodes}
 use Rattle.bench.specs.First.{first}
 use Rattle.bench.proofs.Searches.{first_none}
-use Rattle.channels.specs.Examples.{design_e, loop, fir}
+use Rattle.channels.specs.Examples.{design_e, loop, delayed, fir}
 
 -- a feed out of range, by its source
 feed_bad : ℕ → ℕ → Option ℕ → Option ℕ
@@ -76,6 +76,14 @@ e_in_range = in_range design_e (take design_e.count design_e.nodes) 30 refl refl
 pub loop_in_range : InRange loop
 unfolding first node_bad feed_bad
 loop_in_range = in_range loop (take loop.count loop.nodes) 31 refl refl refl (omega arith) (omega arith) (omega arith) refl
+
+pub delayed_in_range : InRange (delayed 63) × InRange (delayed 64) × InRange (delayed 65)
+unfolding first node_bad feed_bad
+delayed_in_range = (
+  in_range (delayed 63) (take 1 (delayed 63).nodes) 31 refl refl refl (omega arith) (omega arith) (omega arith) refl,
+  in_range (delayed 64) (take 1 (delayed 64).nodes) 31 refl refl refl (omega arith) (omega arith) (omega arith) refl,
+  in_range (delayed 65) (take 1 (delayed 65).nodes) 31 refl refl refl (omega arith) (omega arith) (omega arith) refl,
+)
 
 pub fir_in_range : InRange fir
 unfolding first node_bad feed_bad

@@ -1,5 +1,5 @@
 -- The worked designs.
-use Rattle.std.specs.Prelude.{ℕ, List, [], ◌∷◌, ◌++◌, replicate, Some, None, Option}
+use Rattle.std.specs.Prelude.{ℕ, List, [], ◌∷◌, ◌++◌, replicate, Some, None, Option, codes}
 use Rattle.words.specs.declared.graph.Node.{Node}
 use Rattle.words.specs.declared.graph.Graph.{Graph}
 use Rattle.words.specs.Designs.{blank}
@@ -24,12 +24,20 @@ abbrev pub program_of_e : List ℕ
 program_of_e =
     0x80000082 ∷ 0x90000080 ∷ 0x90000041 ∷ 0x90000020 ∷ 0xA0002000 ∷ 0xB0000080 ∷ 0xB0000041 ∷ 0xA0000021 ∷ 0xB0000020 ∷ 0xC0000000 ∷ 0xD000000B ∷ []
 
+-- its listing, a line for each word
+abbrev pub text_of_e : List ℕ
+text_of_e = codes "80000082\n90000080\n90000041\n90000020\nA0002000\nB0000080\nB0000041\nA0000021\nB0000020\nC0000000\nD000000B\n"
+
 -- one node that hears itself at delay 0
 abbrev pub loop : Graph
 loop = record { count = 1; nodes = node 0 (Some 0 ∷ []) 31 None ∷ replicate 31 blank; output = record { node = 0; delay = 0 } }
 
 abbrev pub words_of_loop : List ℕ
 words_of_loop = 0x10000001 ∷ 0x20000000 ∷ 0x30000000 ∷ 0x40000000 ∷ 0x50000005 ∷ []
+
+-- one node that hears the input alone, at a delay
+abbrev pub delayed : ℕ → Graph
+delayed delay = record { count = 1; nodes = node 0 [] 32 (Some delay) ∷ replicate 31 blank; output = record { node = 0; delay = 0 } }
 
 -- an FIR filter of operations 0 to 3: node i hears node i + 1 at delay 0, if there is one, and the input at delay 3 − i
 abbrev pub fir : Graph

@@ -1,5 +1,5 @@
 use Rattle.channels.proofs.Computed as computed
-use Rattle.channels.proofs.InRange.{e_in_range, loop_in_range, fir_in_range}
+use Rattle.channels.proofs.InRange.{e_in_range, loop_in_range, delayed_in_range, fir_in_range}
 use Rattle.channels.proofs.Loops.{loop_refused}
 use Rattle.channels.proofs.Sources.{e_first, e_second, e_outputs}
 use Rattle.channels.proofs.Steps.{e_steps}
@@ -20,13 +20,24 @@ returns c =
       e_latency = computed.e_latency;
       e_systolic = computed.e_systolic;
       e_program = computed.e_program;
+      e_listed = computed.e_listed;
       e_steps = e_steps;
       e_shifts = computed.e_shifts;
       e_slow = computed.e_slow;
       e_slower = computed.e_slower;
+      e_furthest = computed.e_furthest;
+      e_further = computed.e_further;
+      e_long_shifts = computed.e_long_shifts;
+      e_back = computed.e_back;
+      e_factors = computed.e_factors;
+      e_slow_twice = computed.e_slow_twice;
+      delayed_in_range = delayed_in_range;
+      delayed_slow = computed.delayed_slow;
+      e_times = computed.e_times;
       loop_written = computed.loop_written;
       loop_cycle = computed.loop_cycle;
       loop_refused = loop_refused;
+      loop_printed = computed.loop_printed;
       fir_written = computed.fir_written;
       fir_lags = computed.fir_lags;
       fir_nodes = computed.fir_nodes;
