@@ -4,6 +4,8 @@
 #[cfg(test)]
 mod buffers;
 #[cfg(test)]
+mod inputs;
+#[cfg(test)]
 mod own_cells;
 #[cfg(test)]
 mod reading;

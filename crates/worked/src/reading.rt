@@ -2,6 +2,7 @@
 
 use crate::buffers::shorter_buffers_stay;
 use bench::listing::list_design;
+use bench::rewriting::rewrite;
 use bench::writer::write_design;
 use examples::designs::DESIGN_E;
 use std::test::Fail;
@@ -10,6 +11,10 @@ use words::faults::{
 };
 use words::input::InputWords;
 use words::reader::read_design;
+
+/// The lines of design E.
+pub(crate) const LINES_OF_E: [u8; 72] =
+    *b"10000002\n20000000\n30000040\n30000001\n20000021\n30000020\n40000000\n50000008\n";
 
 /// What a call answers that refuses by a question.
 pub(crate) fn by<Q: Question>(question: Q, place: usize, other: usize) -> Option<Fault> {
@@ -88,10 +93,31 @@ fn text_buffers_of_every_length(rt: HostRuntime) -> Result<(), Fail> {
         |text| list_design(&design, text).err(),
         |length| too_short(length, 72),
     )?;
-    let mut text = [7; 73];
-    assert_eq!(rt; list_design(&design, &mut text)?, 72);
-    assert_eq!(rt; text[71], b'\n');
-    assert_eq!(rt; text[72], 7);
+    for length in 72..74 {
+        let mut text = [7; 73];
+        assert_eq!(rt; list_design(&design, &mut text[0..length])?, 72);
+        assert!(rt; &text[0..72] == LINES_OF_E.as_slice());
+        assert_eq!(rt; text[72], 7);
+    }
+    Ok(())
+}
+
+#[test]
+fn copies_of_every_length(rt: HostRuntime) -> Result<(), Fail> {
+    shorter_buffers_stay(
+        [7; 9],
+        8,
+        |copy| rewrite(&DESIGN_E, copy).err(),
+        |length| too_short(length, 8),
+    )?;
+    for length in 8..10 {
+        let mut copy = [7; 9];
+        let again = rewrite(&DESIGN_E, &mut copy[0..length])?;
+        assert_eq!(rt; again.size(), 8);
+        assert_eq!(rt; again.feed(0, 0), Some(1));
+        assert!(rt; &copy[0..8] == DESIGN_E.as_slice());
+        assert_eq!(rt; copy[8], 7);
+    }
     Ok(())
 }
 

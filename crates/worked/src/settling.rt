@@ -42,12 +42,20 @@ fn design_e_settles(rt: HostRuntime) -> Result<(), Fail> {
 #[test]
 fn a_zero_cycle_is_shown(rt: HostRuntime) -> Result<(), Fail> {
     let design = read_design(&[0x10000001, 0x20000000, 0x30000000, 0x40000000, 0x50000005])?;
-    let mut cycle = [9; 2];
-    assert_eq!(rt;
-        Bench::open(&design, &mut cycle).err(),
-        Some(DesignQuestion::WellDefined.refused(1, 0))
-    );
-    assert!(rt; cycle == [0, 9]);
+    shorter_buffers_stay(
+        [9; 2],
+        1,
+        |cycle| Bench::open(&design, cycle).err(),
+        |length| DesignQuestion::CycleBuffer.refused(length, 1),
+    )?;
+    for length in 1..3 {
+        let mut cycle = [9; 2];
+        assert_eq!(rt;
+            Bench::open(&design, &mut cycle[0..length]).err(),
+            Some(DesignQuestion::WellDefined.refused(1, 0))
+        );
+        assert!(rt; cycle == [0, 9]);
+    }
     Ok(())
 }
 

@@ -12,7 +12,8 @@ use cells::whole::WholeCells;
 use channels::worked::worked_results;
 use examples::designs::DESIGN_E;
 use examples::libraries::cells_of_e;
-use machine::simulator::simulate;
+use machine::simulator::{MAX_TIMES, simulate};
+use machine::values::value_order;
 use std::num::f32_to_bits_with_nan;
 use std::test::Fail;
 use words::faults::{Fault, MachineQuestion};
@@ -116,6 +117,37 @@ fn short_rows_stay(rt: HostRuntime) -> Result<(), Fail> {
     Ok(())
 }
 
+/// What simulating E on so many inputs answers without room for what it writes.
+fn simulate_nowhere(bench: &Bench, inputs: &[i32]) -> Option<Fault> {
+    let mut library = cells_of_e();
+    simulate(bench, &mut library, &[0, 0, 0], inputs, &mut [], &mut []).err()
+}
+
+#[test]
+fn too_many_times(rt: HostRuntime) -> Result<(), Fail> {
+    let bench = opened(&DESIGN_E)?;
+    let inputs = vec![in rt.alloc(); 1; MAX_TIMES + 1]?;
+    assert_eq!(rt;
+        simulate_nowhere(&bench, &inputs),
+        by(MachineQuestion::Times, 65537, 65536)
+    );
+    assert_eq!(rt;
+        simulate_nowhere(&bench, &inputs[1..]),
+        by(MachineQuestion::History, 0, 131072)
+    );
+    Ok(())
+}
+
+#[test]
+fn values_of_design_e_follow(rt: HostRuntime) -> Result<(), Fail> {
+    let mut bench = opened(&DESIGN_E)?;
+    assert!(rt; value_order::<i32, i32>(&bench).nodes() == [1, 0].as_slice());
+    bench.settle()?;
+    assert!(rt; value_order::<i32, i32>(&bench).nodes() == [1, 0].as_slice());
+    assert!(rt; bench.order().nodes() == [0, 1].as_slice());
+    Ok(())
+}
+
 #[test]
 fn whole_cells_wrap(rt: HostRuntime) {
     let mut library = cells_of_e();
@@ -144,6 +176,11 @@ fn float_cells_round_twice(rt: HostRuntime) {
     assert_eq!(rt;
         f32_to_bits_with_nan(apply(&mut library, 5, &[(0, 0.1), (1, 1.0)])),
         0x3F844444
+    );
+    // 3 times the weight is above 1, and rounds to 1: a product that went into the sum unrounded would leave 0x33000000
+    assert_eq!(rt;
+        f32_to_bits_with_nan(apply(&mut library, 5, &[(1, -1.0), (0, 3.0)])),
+        0
     );
 }
 
