@@ -71,7 +71,7 @@ fn emit_aloud(rt: &impl Print, bench: &Bench) -> Result<(), Stopped> {
     Ok(())
 }
 
-/// Opens a bench on the design, settles it and emits its program.
+/// Opens a bench on the design, settles it and emits its program. The answer is the bench, settled.
 pub(crate) fn settle_aloud(rt: &impl Print, design: &Design) -> Result<Bench, Stopped> {
     let mut bench = Bench::open(design, &mut [0; MAX_NODES])?;
     println!(rt; "opened on a bench:")?;
