@@ -1,13 +1,10 @@
 #!/usr/bin/env python3
 """Cases for the simulator: the values of a design in time, on each library of
-cells.
+cells.  machine_cases.py writes them out, with those of the machine.
 
-    python3 tools/simulation_cases.py DIR
+A case is a line of nine fields, parted by colons:
 
-writes DIR/stdin, a case a line, DIR/stdout, what the simulator answers to
-each, and prints how often each answer is given.  A line has eight fields,
-parted by colons:
-
+    simulate
     the words of a design, in hexadecimal
     the moves of its bench, all accepted, as bench_cases.py has them
     the cells: whole, float or compare, with "bubble " before it for bubbles
@@ -69,21 +66,19 @@ operands are, and is then that of the cells below.
 from __future__ import annotations
 
 import struct
-import sys
 from collections import Counter
 from collections.abc import Callable, Iterator
 from dataclasses import dataclass, field
 from itertools import groupby, product
 from math import isnan
-from pathlib import Path
 from random import Random
 from typing import NamedTuple, Optional
 
 from bench_cases import Bench, Lag, Move, Refused as MoveRefused, Settle, Slow
 from bench_cases import any_delay, chain_design, dense_design, fitting_row, on_zero_cycles
 from bench_cases import open_design, small_delay, small_design, some_design, tiny_designs
-from word_cases import INPUT, MOST_NODES, WORKED, WORKED_WORDS, Design, Node
-from word_cases import bare_design, save, sources, write
+from word_cases import INPUT, MOST_NODES, WORKED, WORKED_WORDS, Design, Node, Words
+from word_cases import bare_design, sources, write
 
 MOST_TIMES = 65536
 MOST_SHOWN = 300
@@ -142,6 +137,7 @@ class Cells(NamedTuple):
     name: str
     value: Callable[[int, Weight, Operands], int]
     text: Callable[[int], str]
+    filler: int  # what buffers are filled with
 
 
 def whole_value(_operation: int, weight: Weight, operands: Operands) -> int:
@@ -163,9 +159,9 @@ def compare_value(operation: int, _weight: Weight, operands: Operands) -> int:
     return max(elements, default=0) if operation % 2 == 0 else min(elements, default=65535)
 
 
-WHOLE = Cells("whole", whole_value, str)
-FLOAT = Cells("float", float_value, "{:08X}".format)
-COMPARE = Cells("compare", compare_value, str)
+WHOLE = Cells("whole", whole_value, str, -1234567890)
+FLOAT = Cells("float", float_value, "{:08X}".format, nearest(-12345.678))
+COMPARE = Cells("compare", compare_value, str, 12345)
 NO_WEIGHT = Weight(0, 255)
 
 
@@ -188,6 +184,16 @@ class Library:
 
     def text(self, element: Element) -> str:
         return "-" if element is None else self.cells.text(element)
+
+    def row_text(self, row: Row) -> str:
+        runs = [(self.text(element), len([*run])) for element, run in groupby(row)]
+        return " ".join(
+            f"{length}*{text}" if length >= RUN else " ".join([text] * length)
+            for text, length in runs
+        )
+
+    def line(self, name: str, row: Row) -> str:
+        return " ".join([name, *map(self.text, row)])
 
     def weights_text(self) -> str:
         if self.cells is COMPARE:
@@ -262,6 +268,21 @@ def ask(question: int, given: int, needed: int, answer: bool) -> None:
         raise Refused(question, given, needed)
 
 
+def given_line(
+    task: str, words: Words, moves: tuple[Move, ...], library: Library, *own: str
+) -> str:
+    """A line: what every case has, then what its task has of its own."""
+    fields = (
+        task,
+        " ".join(f"{word:08X}" for word in words),
+        ";".join(map(str, moves)),
+        library.name,
+        library.weights_text(),
+        *own,
+    )
+    return ":".join(fields) + "\n"
+
+
 @dataclass
 class Case:
     design: Design
@@ -287,28 +308,17 @@ class Case:
             return refused.question
         return 0
 
-    def row_text(self, row: Row) -> str:
-        runs = [(self.library.text(element), len([*run])) for element, run in groupby(row)]
-        return " ".join(
-            f"{length}*{text}" if length >= RUN else " ".join([text] * length)
-            for text, length in runs
-        )
-
     def given(self) -> str:
-        fields = (
-            " ".join(f"{word:08X}" for word in write(self.design)),
-            ";".join(map(str, self.moves)),
-            self.library.name,
-            self.library.weights_text(),
-            self.row_text(self.rests),
-            self.row_text(self.inputs),
+        return given_line(
+            "simulate",
+            write(self.design),
+            self.moves,
+            self.library,
+            self.library.row_text(self.rests),
+            self.library.row_text(self.inputs),
             str(self.history),
             str(self.outputs),
         )
-        return ":".join(fields) + "\n"
-
-    def line(self, name: str, row: Row) -> str:
-        return " ".join([name, *map(self.library.text, row)])
 
     def values(self) -> Iterator[str]:
         """The lines of a run; the latest value is asked for first."""
@@ -316,8 +326,8 @@ class Case:
         n, t = len(self.design.nodes), len(self.inputs)
         outputs = [values.output(time) for time in reversed(range(t))][::-1]
         for time in range(max(0, t - MOST_SHOWN), t):
-            yield self.line("v", [values.value(node, time) for node in range(n)])
-        yield self.line("out", outputs[-MOST_SHOWN:])
+            yield self.library.line("v", [values.value(node, time) for node in range(n)])
+        yield self.library.line("out", outputs[-MOST_SHOWN:])
         yield f"kept {self.history - n * t} {self.outputs - t}"
 
     def printed(self) -> Iterator[str]:
@@ -876,34 +886,11 @@ def all_cases() -> Iterator[Case]:
     yield from drawn_cases(Random(4))
 
 
-def stored_cases() -> dict[str, Case]:
-    """The cases by their lines, the same one kept once."""
-    return {case.given(): case for case in all_cases()}
-
-
-def case_lines(cases: dict[str, Case]) -> Iterator[str]:
-    for number, case in enumerate(cases.values()):
-        yield f"case {number}\n"
-        yield from (f"{line}\n" for line in case.printed())
-
-
-def counts(cases: dict[str, Case]) -> Counter[tuple[str, int]]:
-    return Counter((case.library.name, case.question()) for case in cases.values())
-
-
-def main(directory: str) -> None:
-    cases = stored_cases()
-    target = Path(directory)
-    target.mkdir(parents=True, exist_ok=True)
-    save(target / "stdin", iter(cases))
-    save(target / "stdout", case_lines(cases))
-    print(f"{len(cases)} cases")
-    for (name, question), times in sorted(counts(cases).items()):
+def counts(cases: list[Case]) -> Counter[str]:
+    """How often each library is given each answer."""
+    answers: Counter[str] = Counter()
+    for case in cases:
+        question = case.question()
         answer = f"refused by {question}" if question else "accepted"
-        print(f"{name}: {times} {answer}")
-
-
-if __name__ == "__main__":
-    if len(sys.argv) != 2:
-        sys.exit("usage: simulation_cases.py DIR")
-    main(sys.argv[1])
+        answers[f"simulate, {case.library.name}: {answer}"] += 1
+    return answers

@@ -1,5 +1,5 @@
 -- The firing order never gets stuck, on any bench.
-use Rattle.std.proofs.Common.{◌≡◌, ℕ, zero, suc, ◌+◌, ◌-◌, ◌*◌, ◌<◌, ◌≤◌, true, ltb, length, get_or, Some, None, Option, sym, refl, ap, ◌∙◌, mul-zero, arith}
+use Rattle.std.proofs.Common.{◌≡◌, ℕ, zero, suc, ◌+◌, ◌-◌, ◌*◌, ◌<◌, ◌≤◌, true, ltb, List, length, get_or, Some, None, Option, sym, refl, ap, ◌∙◌, mul-zero, arith}
 use Rattle.std.specs.Option.{option_map}
 use Rattle.std.proofs.lemmas.Nat.{mul-le}
 use Rattle.std.proofs.lemmas.Bool.{false≢true, and_parts, and_from, eqb-true, lt-ltb}
@@ -9,6 +9,7 @@ use Rattle.bench.specs.declared.retiming.Retiming.{Retiming}
 use Rattle.bench.specs.Firing.{place_in}
 use Rattle.bench.specs.Orders.{Fires, Ranked}
 use Rattle.bench.specs.Retimings.{Sound, at_rest, order, waits, lag_at, delay_of, current_delay, is_zero, max_lag}
+use Rattle.bench.proofs.AtRest.{rest_delay}
 use Rattle.bench.proofs.Fires.{fired_fine, fired_long}
 use Rattle.bench.proofs.Lists.{distinct_all, has_at, place_at, place_below}
 use Rattle.bench.proofs.Ordered.{source_node}
@@ -67,3 +68,16 @@ module _ (g : Graph) (few : g.count ≤ max_nodes) (p : Retiming) (s : Sound g p
   pub fires_order : Fires g p (order g p)
   fires_order =
       record { whole = ranked_order.whole; every = ranked_order.every; only = ranked_order.only; once = ranked_order.once; rises = ranked_order.rises }
+
+-- at rest the current delays are the design's own
+pub ranked_rest : (g : Graph) (l : List ℕ) → Ranked g.count (current_delay g at_rest) l → Ranked g.count (feed_at g) l
+ranked_rest g l f =
+    record {
+      whole = f.whole;
+      every = f.every;
+      only = f.only;
+      once = f.once;
+      below = f.below;
+      found = f.found;
+      rises = λ i j li lj e. f.rises i j li lj (ap (option_map (delay_of at_rest i j)) e ∙ ap Some (rest_delay i j 0));
+    }

@@ -1,6 +1,6 @@
 pub mod Searches
 pub mod Finding
-mod Lists
+pub mod Lists
 pub mod Listed
 mod Fires
 mod Ordered
@@ -10,14 +10,17 @@ mod Walking
 pub mod Complete
 mod Settling
 mod Judging
-mod Settled
+pub mod Settled
 mod Sending
-mod Emitting
+pub mod Emitting
+mod Celling
 pub mod Soundness
 pub mod Overlays
 pub mod Outcomes
 mod Moving
 mod Moved
+pub mod Ended
 mod Writing
 mod Reading
 mod Listings
+pub mod Tabled

@@ -7,8 +7,9 @@ pub mod Walks
 pub mod Moves
 pub mod Verdicts
 pub mod Calls
-pub mod Kinds
 pub mod Programs
+pub mod Tables
+pub mod Cells
 pub mod Buffers
 pub mod Refusals
 pub mod Listing

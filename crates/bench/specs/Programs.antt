@@ -2,7 +2,8 @@
 use Rattle.std.specs.Prelude.{◌≡◌, ℕ, zero, suc, ◌+◌, ◌<◌, ◌≤◌, cond, ◌⊎◌, List, [], ◌∷◌, ◌++◌, length, Some, None, Option, ◌==◌, max, slice_index}
 use Rattle.std.specs.Option.{unwrap_or}
 use Rattle.words.specs.declared.graph.Graph.{Graph}
-use Rattle.words.specs.Designs.{node_at, input, sources}
+use Rattle.words.specs.Designs.{node_at, sources}
+use Rattle.words.specs.ProgramEncoding.{line_source}
 use Rattle.words.specs.Programs.{array_word, line_word, cell_word, tap_word, array_output_word, array_end_word}
 use Rattle.bench.specs.declared.retiming.Retiming.{Retiming}
 use Rattle.bench.specs.Retimings.{lag_at, current_delay, output_delay, order}
@@ -31,10 +32,7 @@ pub record Reaches (g : Graph) (p : Retiming) (j l : ℕ) : Type 0 where
   pub output : g.output.node ≡ j → output_delay g p ≤ l
   pub reached : (l ≡ 0) ⊎ ((g.output.node ≡ j) × (l ≡ output_delay g p)) ⊎ ((i : ℕ) × (i < g.count) × (current_delay g p i j ≡ Some l))
 
--- the lines: the nodes in order, then the input
-abbrev pub line_source : ℕ → ℕ → ℕ
-line_source n k = cond (k == n) input k
-
+-- a line
 abbrev pub line_at : Graph → Retiming → ℕ → List ℕ
 line_at g p k = line_word (line_source g.count k) (line_length g p (line_source g.count k)) ∷ []
 

@@ -2,10 +2,14 @@
 
 ghost use Rattle.std.specs.Prelude.{◌≡◌, ℕ, ◌+◌, ◌<◌, ◌≤◌, [], ◌∷◌, ◌++◌};
 ghost use Rattle.arrayvec.specs.ArrayVec.{array_vec_len};
+ghost use Rattle.words.specs.ProgramEncoding.{encoded_program};
+ghost use Rattle.words.specs.ProgramTables.{ProgramInRange};
 ghost use Rattle.words.specs.Programs.{line_word};
 ghost use Rattle.bench.specs.Buffers.{Written};
+ghost use Rattle.bench.specs.Cells.{ListsCells};
 ghost use Rattle.bench.specs.Listing.{listed as text_of};
 ghost use Rattle.bench.specs.Programs.{in_turn, line_length, line_at, taps, cell, cells, program, Reaches};
+ghost use Rattle.bench.specs.Tables.{program_of};
 
 use crate::bench::Bench;
 use crate::encode::{ProgramKind, WordKind};
@@ -111,6 +115,9 @@ impl Bench {
     pub fn emit(&self, words: &mut [u32]) -> Result<usize, Fault>
         ensures written { Written (program self.now.design.graph self.now.retiming) words.old words.new result }
         ensures lines { (j : ℕ) → Reaches self.now.design.graph self.now.retiming j (line_length self.now.design.graph self.now.retiming j) }
+        ensures cells { ListsCells self.now.design.graph self.now.retiming (program self.now.design.graph self.now.retiming) }
+        ensures table { program self.now.design.graph self.now.retiming ≡ encoded_program (program_of self.now.design.graph self.now.retiming) }
+        ensures in_range { ProgramInRange (program_of self.now.design.graph self.now.retiming) }
     {
         let program = self.program_words();
         write_words(program.as_slice(), words)

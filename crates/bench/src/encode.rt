@@ -3,20 +3,10 @@
 ghost use Rattle.std.specs.Prelude.{◌≡◌, ℕ, ◌+◌, ◌*◌, ◌^◌, ◌<◌, Some};
 ghost use Rattle.words.specs.Fields.{word_of, place_word};
 ghost use Rattle.words.specs.Kinds.{number_of};
-ghost use Rattle.bench.specs.Kinds.{program_kind};
+ghost use Rattle.words.specs.ProgramKinds.{program_number_of};
 
 use words::kinds::Kind;
-
-/// The kinds of the words of an array program.
-#[derive(Clone, Copy)]
-pub(crate) enum ProgramKind {
-    Head = 8,
-    Line = 9,
-    Cell = 10,
-    Tap = 11,
-    Output = 12,
-    End = 13,
-}
+pub(crate) use words::kinds::ProgramKind;
 
 /// A kind of words. Its number stands in bits 31 to 28, above the fields.
 pub(crate) trait WordKind: Copy {
@@ -68,7 +58,7 @@ impl WordKind for Kind {
 }
 
 impl WordKind for ProgramKind {
-    ghost number = { program_kind };
+    ghost number = { λ kind. program_number_of (Some kind) };
 
     fn number(self) -> u32 {
         self as u32

@@ -2,8 +2,9 @@
 use Rattle.std.proofs.Common.{◌≡◌, ℕ, ◌<◌, true, [], ◌∷◌, get_or, pos, negsuc, is_some, Some, None, Ok, sym, refl, ap, ◌∙◌, subst, arith, codes}
 use Rattle.std.specs.Fmt.{digits}
 use Rattle.words.specs.Encoding.{encoded, node_words, feed_words}
+use Rattle.words.specs.Formats.{refused_from_in, asked_in}
 use Rattle.words.specs.Lines.{line}
-use Rattle.words.specs.Questions.{refused, refused_from, asked, count_of, nodes_in, in_node, after_output, least_source}
+use Rattle.words.specs.Questions.{refused, count_of, nodes_in, in_node, after_output, least_source}
 use Rattle.words.specs.Kinds.{kind_numbered}
 use Rattle.bench.specs.First.{first}
 use Rattle.bench.specs.Firing.{has, place_in, listed_after}
@@ -23,7 +24,7 @@ unfolding encoded node_words feed_words
 e_written = refl
 
 pub e_read : refused words_of_e ≡ None
-unfolding refused_from asked count_of nodes_in in_node after_output least_source kind_numbered
+unfolding refused_from_in asked_in count_of nodes_in in_node after_output least_source kind_numbered
 e_read = refl
 
 pub e_settles : settle_fault design_e at_rest ≡ None

@@ -3,3 +3,9 @@ mod Computed
 mod Sources
 mod Steps
 mod Loops
+mod Begins
+mod Runs
+mod Running
+mod Timed
+mod Stepped
+mod Done

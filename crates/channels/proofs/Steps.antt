@@ -10,7 +10,7 @@ use Rattle.bench.specs.Retimings.{current_delay}
 use Rattle.cells.specs.declared.weights.Weight.{Weight}
 use Rattle.cells.specs.Meaning.{applied}
 use Rattle.cells.specs.Sums.{whole_meaning}
-use Rattle.machine.specs.declared.tap.Tap.{Tap}
+use Rattle.words.specs.declared.program_table.Tap.{Tap}
 use Rattle.machine.specs.Values.{past, heard, taps_to, operand}
 use Rattle.machine.specs.Arrays.{array_of, Runs, put_out}
 use Rattle.machine.proofs.Histories.{past_at}
@@ -83,13 +83,13 @@ module _ (table : List (Weight ℤ)) (cells : CellsOfE table) (rest x : ℕ → 
     unfolding int_wrap
     at_6 = step 5 (pos 30) (pos 0) (pos 60) (omega arith) at_4 refl refl
 
-    pub e_steps : (τ : ℕ) → τ < 7 → put_out (array_of design_e settled_e) rest u τ ≡ get_or steps_of_e τ (pos 0)
+    pub e_puts_out : (τ : ℕ) → τ < 7 → put_out (array_of design_e settled_e) rest u τ ≡ get_or steps_of_e τ (pos 0)
     unfolding moved
-    e_steps zero l = at_0
-    e_steps (suc zero) l = at_1
-    e_steps (suc (suc zero)) l = at_2
-    e_steps (suc (suc (suc zero))) l = at_3
-    e_steps (suc (suc (suc (suc zero)))) l = at_4
-    e_steps (suc (suc (suc (suc (suc zero))))) l = at_5
-    e_steps (suc (suc (suc (suc (suc (suc zero)))))) l = at_6
-    e_steps (suc (suc (suc (suc (suc (suc (suc τ))))))) l = absurd (omega arith)
+    e_puts_out zero l = at_0
+    e_puts_out (suc zero) l = at_1
+    e_puts_out (suc (suc zero)) l = at_2
+    e_puts_out (suc (suc (suc zero))) l = at_3
+    e_puts_out (suc (suc (suc (suc zero)))) l = at_4
+    e_puts_out (suc (suc (suc (suc (suc zero))))) l = at_5
+    e_puts_out (suc (suc (suc (suc (suc (suc zero)))))) l = at_6
+    e_puts_out (suc (suc (suc (suc (suc (suc (suc τ))))))) l = absurd (omega arith)

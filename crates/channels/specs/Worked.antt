@@ -1,11 +1,15 @@
 -- The worked results, by the definitions that the calls' contracts cite.
-use Rattle.std.specs.Prelude.{◌≡◌, ℕ, ◌<◌, ◌≤◌, List, [], ◌∷◌, length, get_or, ℤ, pos, negsuc, ◌+ℤ◌, ◌*ℤ◌, Some, None, Ok, Err, Result, slice_index_or, codes}
+use Rattle.std.specs.Prelude.{◌≡◌, ℕ, ◌+◌, ◌<◌, ◌≤◌, List, [], ◌∷◌, map, length, get_or, ℤ, pos, negsuc, ◌+ℤ◌, ◌*ℤ◌, Some, None, Option, Ok, Err, Result, slice_index_or, codes}
+use Rattle.std.specs.List.{slice_get}
 use Rattle.std.specs.Int.{int_wrap, w32}
 use Rattle.words.specs.declared.faults.Fault.{Fault}
 use Rattle.words.specs.declared.design.Design.{Design}
+use Rattle.words.specs.declared.program_table.ProgramTable.{ProgramTable}
 use Rattle.words.specs.Designs.{InRange}
 use Rattle.words.specs.Encoding.{encoded}
 use Rattle.words.specs.Lines.{line}
+use Rattle.words.specs.ProgramEncoding.{encoded_program}
+use Rattle.words.specs.ProgramTables.{ProgramInRange}
 use Rattle.words.specs.Questions.{refused}
 use Rattle.bench.specs.declared.bench.Bench.{Bench}
 use Rattle.bench.specs.declared.retiming.Retiming.{Retiming}
@@ -21,7 +25,10 @@ use Rattle.cells.specs.declared.weights.Weight.{Weight}
 use Rattle.cells.specs.Sums.{whole_meaning, whole_blank}
 use Rattle.machine.specs.Refusals.{simulate_fault, too_long}
 use Rattle.machine.specs.Values.{past, Solves, output}
-use Rattle.machine.specs.Arrays.{array_of, Runs, put_out}
+use Rattle.machine.specs.Machines.{registers_needed}
+use Rattle.channels.specs.declared.events.Event.{Event}
+use Rattle.channels.specs.declared.events.Event.TheVariants.{Start, Step}
+use Rattle.channels.specs.Events.{State, Ran}
 use Rattle.channels.specs.Examples.{design_e, words_of_e, program_of_e, text_of_e, loop, words_of_loop, delayed, fir, words_of_fir}
 
 -- E, settled
@@ -43,12 +50,17 @@ pub record Outputs (rest : ℕ → ℤ) (v : ℕ → ℕ → ℤ) (first second 
   pub at_1 : output design_e rest v 1 ≡ second
   pub at_2 : output design_e rest v 2 ≡ third
 
--- two channels, and what the array of E puts out for them
+-- two channels, and what the machine of E puts out for them
 abbrev pub inputs_of_e : List ℤ
 inputs_of_e = pos 1 ∷ pos 5 ∷ pos 1 ∷ pos 0 ∷ pos 1 ∷ pos 0 ∷ pos 0 ∷ []
 
 abbrev pub steps_of_e : List ℤ
 steps_of_e = pos 0 ∷ pos 3 ∷ pos 15 ∷ pos 9 ∷ pos 30 ∷ pos 21 ∷ pos 60 ∷ []
+
+-- an event is a start from these rests
+abbrev pub StartsFrom : List ℤ → Event ℤ → Type 0
+StartsFrom rests (Start rest) = rest.now ≡ rests
+StartsFrom rests (Step input) = ⊥
 
 pub record Worked : Type 0 where
   -- the three are designs
@@ -72,9 +84,12 @@ pub record Worked : Type 0 where
   pub e_program : program design_e settled_e ≡ program_of_e
   -- which are listed as eleven lines
   pub e_listed : listed (program design_e settled_e) ≡ text_of_e
-  -- its array, from rests of 0, on 1, 5, 1, 0, 1, 0, 0 puts out 0, 3, 15, 9, 30, 21, 60
-  pub e_steps : (table : List (Weight ℤ)) → CellsOfE table → (rest x : ℕ → ℤ) (u : ℕ → ℕ → ℤ) → Runs (array_of design_e settled_e) (whole_meaning table) rest x u → rest 0 ≡ pos 0 →
-      ((τ : ℕ) → τ < 7 → x τ ≡ slice_index_or inputs_of_e τ (pos 0)) → (τ : ℕ) → τ < 7 → put_out (array_of design_e settled_e) rest u τ ≡ slice_index_or steps_of_e τ (pos 0)
+  -- a machine that has just loaded this program and is started from rests of 0, with enough registers, answers steps on 1, 5, 1, 0, 1, 0, 0 by 0, 3,
+  -- 15, 9, 30, 21, 60
+  pub e_steps : (table : List (Weight ℤ)) → CellsOfE table → (t : ProgramTable) → ProgramInRange t → encoded_program t ≡ program_of_e →
+      (first last : State ℤ) → first.cycle ≡ 0 → registers_needed t ≤ length first.row → (start : Event ℤ) → StartsFrom (pos 0 ∷ pos 0 ∷ pos 0 ∷ []) start →
+      (answers : List (Option ℤ)) → Ran t (whole_meaning table) first (start ∷ map (λ input. Step input) inputs_of_e) answers last →
+      (k : ℕ) → k < 7 → slice_get answers (k + 1) ≡ Some (Some (slice_index_or steps_of_e k (pos 0)))
   -- on E, shifts 0, 1 get 11 at 0, 1
   pub e_shifts : lag_fault design_e at_rest (pos 0 ∷ pos 1 ∷ []) ≡ Some (delay_out 0 1)
   -- slow by 64 passes, and slow by 2 then gets 13

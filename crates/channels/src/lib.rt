@@ -1,4 +1,7 @@
-//! The worked results, over all the libraries below.
+//! The timing promise of emitted programs, and the worked results, over all the libraries below.
 #![tactic(auto)]
 
+pub mod events;
+pub mod timing;
+pub mod whole;
 pub mod worked;

@@ -12,7 +12,7 @@ use Rattle.bench.specs.Firing.{place_in}
 use Rattle.bench.specs.Orders.{Ranked}
 use Rattle.bench.specs.Retimings.{Sound, lag_at, source_lag, delay_of, ahead, current_delay, latency}
 use Rattle.cells.specs.Meaning.{Meaning, applied}
-use Rattle.machine.specs.declared.tap.Tap.{Tap}
+use Rattle.words.specs.declared.program_table.Tap.{Tap}
 use Rattle.machine.specs.Values.{past, heard, tap_if, taps_to, operand, Solves, output}
 use Rattle.machine.specs.Arrays.{array_of, Runs, put_out, ChannelsKeepTime}
 use Rattle.machine.proofs.Histories.{past_at, past_rest, given_input, given_node, source_node}

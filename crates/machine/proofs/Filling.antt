@@ -7,7 +7,7 @@ use Rattle.words.specs.Designs.{InRange, node_at, feed_at}
 use Rattle.bench.specs.Firing.{place_in}
 use Rattle.bench.specs.Orders.{Ranked}
 use Rattle.cells.specs.Meaning.{Meaning, applied}
-use Rattle.machine.specs.declared.tap.Cell.{Cell}
+use Rattle.machine.specs.declared.cell.Cell.{Cell}
 use Rattle.machine.specs.Values.{heard, operand, Solves}
 use Rattle.machine.specs.Plans.{Planned}
 use Rattle.machine.specs.Buffers.{value_in}

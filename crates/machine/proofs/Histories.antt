@@ -3,14 +3,14 @@ use Rattle.std.proofs.Common.{◌≡◌, ℕ, zero, suc, ◌+◌, ◌-◌, ◌*�
 use native.Mathlib.Nat.{sub-zero}
 use native.Mathlib.Decide.{dec_le}
 use Rattle.std.specs.List.{AllByRecursion}
-use Rattle.std.proofs.lemmas.Bool.{cond-true, cond-false, le-leb, lt-leb, eq-eqb, ne_eqb, eqb-true, ltb-true, cases_Bool, cases_eq}
+use Rattle.std.proofs.lemmas.Bool.{cond-true, cond-false, le-leb, lt-leb, lt-ltb, eq-eqb, ne_eqb, eqb-true, ltb-true, cases_Bool, cases_eq}
 use Rattle.std.proofs.ByRecursion.{All-append}
 use Rattle.words.specs.declared.graph.Graph.{Graph}
 use Rattle.words.specs.Designs.{InRange, node_at, feed_at, input, sources, is_source}
 use Rattle.cells.specs.Meaning.{Meaning, applied}
 use Rattle.bench.specs.Firing.{place_in}
 use Rattle.bench.specs.Orders.{Ranked}
-use Rattle.machine.specs.declared.tap.Tap.{Tap}
+use Rattle.words.specs.declared.program_table.Tap.{Tap}
 use Rattle.machine.specs.Values.{past, given, heard, tap_if, taps_to, taps_of, operand, operands, Solves, SolvesBefore, Determined}
 
 -- all taps of a row, by their feeds
@@ -65,6 +65,10 @@ source_node n j s other =
     (λ (b : ltb j n ≡ true). ltb-true j n b)
     (λ (b : ltb j n ≡ false). absurd (other (eqb-true j input (sym (ap (λ c. c || eqb j input) b) ∙ s))))
     (cases_Bool (ltb j n))
+
+-- a node is a source
+pub node_source : (n j : ℕ) → j < n → is_source n j ≡ true
+node_source n j l = ap (λ b. b || eqb j input) (lt-ltb j n l)
 
 -- every place of the history lies within it
 pub place_within : (n T long s i : ℕ) → s < T → i < n → n * T ≤ long → s * n + i < long

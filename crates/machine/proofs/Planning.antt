@@ -4,8 +4,8 @@ use Rattle.std.proofs.ByRecursion.{All-get_or}
 use Rattle.words.specs.declared.graph.Graph.{Graph}
 use Rattle.words.specs.Designs.{InRange, feed_at, is_source, sources}
 use Rattle.bench.specs.Orders.{Ranked}
-use Rattle.machine.specs.declared.tap.Tap.{Tap}
-use Rattle.machine.specs.declared.tap.Cell.{Cell}
+use Rattle.words.specs.declared.program_table.Tap.{Tap}
+use Rattle.machine.specs.declared.cell.Cell.{Cell}
 use Rattle.machine.specs.Plans.{Planned, Whole, Ready}
 use Rattle.machine.specs.Values.{taps_of}
 use Rattle.machine.proofs.Histories.{taps_all}

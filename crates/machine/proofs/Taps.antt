@@ -1,7 +1,7 @@
 -- A node's taps, a source at a time.
 use Rattle.std.proofs.Common.{◌≡◌, ℕ, suc, ◌+◌, List, [], ◌∷◌, ◌++◌, Some, None, Option, sym, refl, ap, ◌∙◌, arith}
 use Rattle.std.proofs.lemmas.List.{append-nil}
-use Rattle.machine.specs.declared.tap.Tap.{Tap}
+use Rattle.words.specs.declared.program_table.Tap.{Tap}
 use Rattle.machine.specs.Values.{tap_if, taps_to}
 
 module _ (row : ℕ → Option ℕ) (k : ℕ) (taps : List Tap) (so_far : taps ≡ taps_to row k) where

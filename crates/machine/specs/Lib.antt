@@ -4,3 +4,14 @@ pub mod Buffers
 pub mod Refusals
 pub mod Simulation
 pub mod Arrays
+pub mod Steps
+pub mod Loading
+pub mod Wirings
+pub mod Starting
+pub mod ProgramArrays
+pub mod Machines
+pub mod Loads
+pub mod Fitting
+pub mod Moving
+pub mod Reading
+pub mod Fired

@@ -2,8 +2,8 @@
 use Rattle.std.specs.Prelude.{◌≡◌, ℕ, ◌<◌, true, List, length, slice_index, slice_index_or}
 use Rattle.words.specs.declared.graph.Graph.{Graph}
 use Rattle.words.specs.Designs.{node_at, is_source}
-use Rattle.machine.specs.declared.tap.Tap.{Tap}
-use Rattle.machine.specs.declared.tap.Cell.{Cell}
+use Rattle.words.specs.declared.program_table.Tap.{Tap}
+use Rattle.machine.specs.declared.cell.Cell.{Cell}
 use Rattle.machine.specs.Values.{taps_of}
 
 -- a cell fires node i of a design

@@ -6,7 +6,7 @@ use Rattle.words.specs.Designs.{InRange, feed_at}
 use Rattle.bench.specs.Firing.{place_in}
 use Rattle.bench.specs.Orders.{Ranked}
 use Rattle.cells.specs.Meaning.{Meaning}
-use Rattle.machine.specs.declared.tap.Cell.{Cell}
+use Rattle.machine.specs.declared.cell.Cell.{Cell}
 use Rattle.machine.specs.Values.{Solves, SolvesBefore, output}
 use Rattle.machine.specs.Plans.{Whole}
 use Rattle.machine.specs.Refusals.{simulate_fault}

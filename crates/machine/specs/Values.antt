@@ -3,7 +3,7 @@ use Rattle.std.specs.Prelude.{◌≡◌, ℕ, zero, suc, ◌-◌, ◌<◌, cond,
 use Rattle.words.specs.declared.graph.Graph.{Graph}
 use Rattle.words.specs.Designs.{node_at, feed_at, input, sources}
 use Rattle.cells.specs.Meaning.{Meaning, Operand, applied}
-use Rattle.machine.specs.declared.tap.Tap.{Tap}
+use Rattle.words.specs.declared.program_table.Tap.{Tap}
 
 -- what f was d before time t, or its rest value where that is before time 0
 abbrev pub past : {E : Type 0} → (ℕ → E) → E → ℕ → ℕ → E

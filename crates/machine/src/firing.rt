@@ -8,9 +8,9 @@ ghost use Rattle.machine.specs.Plans.{Ready};
 ghost use Rattle.machine.specs.Buffers.{heard_in};
 ghost use Rattle.machine.specs.Simulation.{Advances};
 
+use crate::cell::Cell;
 use crate::moment::Moment;
 use crate::plan::Plan;
-use crate::tap::Cell;
 use cells::library::CellLibrary;
 
 impl Cell {

@@ -1,9 +1,19 @@
-//! The machine. Its first part: the simulator of a source design.
+//! The simulator of a source design, and the machine that loads a program and steps it.
 #![tactic(auto)]
 
+pub mod cell;
+mod checks;
 mod firing;
+mod layout;
+mod line;
+mod loading;
+pub mod machine;
 mod moment;
+pub mod named;
 mod plan;
 pub mod simulator;
-pub mod tap;
+mod starting;
+mod step;
 pub mod values;
+mod wired;
+pub mod wiring;

@@ -4,8 +4,8 @@ ghost use Rattle.std.specs.Prelude.{◌≡◌, ◌+◌, ◌*◌, ◌<◌, ◌≤
 ghost use Rattle.words.specs.Designs.{is_source};
 ghost use Rattle.machine.specs.Buffers.{rest_place, heard_in};
 
-use crate::tap::Tap;
 use words::graph::INPUT;
+use words::program_table::Tap;
 
 /// A time of a simulation of `count` nodes, with the rest row and the inputs. The history is lent beside it, since it changes while the nodes
 /// of one time fire.
@@ -22,7 +22,7 @@ pub(crate) struct Moment<'a, E> {
 }
 
 /// Where the rest row of `count` nodes has a source's value: the nodes in order, then the input.
-fn rest_place(count: usize, source: usize) -> usize
+pub(crate) fn rest_place(count: usize, source: usize) -> usize
     ensures { result ≡ rest_place count source }
 {
     if source == INPUT { count } else { source }

@@ -5,14 +5,15 @@ ghost use Rattle.arrayvec.specs.ArrayVec.{array_vec_len};
 ghost use Rattle.words.specs.Designs.{feed_at};
 ghost use Rattle.bench.specs.Orders.{Ranked};
 ghost use Rattle.bench.specs.Retimings.{order, at_rest};
-ghost use Rattle.machine.specs.declared.tap.Cell.{Cell};
+ghost use Rattle.machine.specs.declared.cell.Cell.{Cell};
 ghost use Rattle.machine.specs.Plans.{Planned, Whole, Ready};
 
-use crate::tap::{Cell, Tap};
+use crate::cell::Cell;
 use arrayvec::ArrayVec;
 use bench::bench::Bench;
 use words::design::Design;
 use words::graph::{MAX_NODES, Node};
+use words::program_table::Tap;
 
 impl Cell {
     /// A node of a design, with its taps.
@@ -25,6 +26,7 @@ impl Cell {
         for (source, feed) in feeds.iter().enumerate() {
             if let Some(delay) = *feed {
                 let source = source as u8;
+                let delay = u16::from(delay);
                 taps.push(Tap { source, delay });
             }
         }

@@ -7,10 +7,10 @@ ghost use Rattle.machine.specs.Simulation.{Simulates};
 
 use crate::moment::Moment;
 use crate::plan::Plan;
-use crate::tap::Tap;
 use bench::bench::Bench;
 use cells::library::CellLibrary;
 use words::faults::{Fault, MachineQuestion, Question};
+use words::program_table::Tap;
 
 /// The most times that are simulated.
 pub const MAX_TIMES: usize = 65536;
@@ -72,7 +72,7 @@ pub fn simulate<L: CellLibrary>(
     let output = design.output();
     let tap = Tap {
         source: output.node as u8,
-        delay: output.delay,
+        delay: u16::from(output.delay),
     };
     for (time, place) in outputs[..inputs.len()].iter_mut().enumerate() {
         let moment = Moment {

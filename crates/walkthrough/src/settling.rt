@@ -1,10 +1,11 @@
-//! A bench opened, settled and emitted: K, lags, current delays, the firing order, the verdict and the array program.
+//! A bench opened, settled and emitted, and the program loaded: K, lags, current delays, the firing order, the verdict and the array program.
 
 use crate::Stopped;
 use crate::notation::Feed;
 use crate::reading::print_words;
 use bench::bench::Bench;
 use bench::verdict::Breach;
+use machine::machine::Machine;
 use std::io;
 use words::design::Design;
 use words::graph::{MAX_NODES, SOURCES};
@@ -62,16 +63,18 @@ fn print_order(rt: &impl Print, bench: &Bench) -> io::Result<()> {
     println!(rt; "")
 }
 
-/// Emits the array program and prints its words.
+/// Emits the array program, prints its words and loads it.
 fn emit_aloud(rt: &impl Print, bench: &Bench) -> Result<(), Stopped> {
     let mut words = [0; 16];
     let count = bench.emit(&mut words)?;
     println!(rt; "emitted, the array program is {count} words:")?;
     print_words(rt, &words[..count])?;
+    let registers = Machine::load(&words[..count])?.registers();
+    println!(rt; "loaded, its machine needs {registers} registers")?;
     Ok(())
 }
 
-/// Opens a bench on the design, settles it and emits its program. The answer is the bench, settled.
+/// Opens a bench on the design, settles it, emits its program and loads that. The answer is the bench, settled.
 pub(crate) fn settle_aloud(rt: &impl Print, design: &Design) -> Result<Bench, Stopped> {
     let mut bench = Bench::open(design, &mut [0; MAX_NODES])?;
     println!(rt; "opened on a bench:")?;

@@ -1,9 +1,14 @@
 pub mod Made
 pub mod Ranges
 pub mod Encodings
-mod Wholes
+pub mod Wholes
+pub mod Sources
+mod Kinded
+mod Putting
+mod FormatAsking
+mod FormatStopping
+mod FormatRefusing
 mod Standing
-mod Asking
 mod Drafting
 mod Drafted
 mod Taking
@@ -12,3 +17,15 @@ mod Walking
 mod Telling
 mod Stopping
 mod Refusing
+pub mod ProgramWholes
+mod ProgramStanding
+pub mod ProgramEncodings
+pub mod ProgramWalking
+pub mod ProgramTelling
+pub mod ProgramRanges
+mod ProgramMissing
+mod ProgramDrafting
+mod ProgramDrafted
+mod ProgramTaking
+mod ProgramTakes
+mod ProgramRefusing

@@ -10,10 +10,10 @@ use Rattle.words.specs.Kinds.{kind_of, is_node, is_feed, is_output}
 use Rattle.words.specs.Questions.{count_of, nodes_in, last_word, in_node, after_output, least_source}
 use Rattle.words.specs.Drafts.{Stands}
 
-push_last : (p : List ℕ) (w : ℕ) → last_word (p ++ w ∷ []) ≡ w
+pub push_last : (p : List ℕ) (w : ℕ) → last_word (p ++ w ∷ []) ≡ w
 push_last p w = get_or_push p w 0 _ (omega (arith, length_push p w))
 
-push_count : (p : List ℕ) (w : ℕ) → 0 < length p → count_of (p ++ w ∷ []) ≡ count_of p
+pub push_count : (p : List ℕ) (w : ℕ) → 0 < length p → count_of (p ++ w ∷ []) ≡ count_of p
 unfolding count_of
 push_count p w h = ap (field 0 6) (get_or_append_left p (w ∷ []) 0 0 h)
 

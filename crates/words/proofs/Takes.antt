@@ -1,29 +1,22 @@
 -- A word that passes every question: the draft with it.
-use Rattle.std.proofs.Common.{◌≡◌, ℕ, ◌^◌, ◌<◌, ◌≤◌, true, not, eqb, ltb, is_some, List, [], ◌∷◌, ◌++◌, None, sym, refl, ap, ◌∙◌, ⊎_elim, arith, Some}
-use Rattle.std.proofs.lemmas.Bool.{lt-ltb, le-leb, eq-eqb, and_from, or_cases, ltb-true, eqb-true}
+use Rattle.std.proofs.Common.{◌≡◌, ℕ, ◌^◌, ◌<◌, ◌≤◌, true, not, is_some, List, [], ◌∷◌, ◌++◌, None, sym, refl, ap, ◌∙◌, arith, Some}
+use Rattle.std.proofs.lemmas.Bool.{lt-ltb, le-leb, eq-eqb, and_from}
 use Rattle.words.specs.declared.graph.Output.{Output}
 use Rattle.words.specs.declared.kinds.Kind.TheVariants as kind
 use Rattle.words.specs.declared.draft.Draft.{Draft}
 use Rattle.words.specs.Fields.{field}
 use Rattle.words.specs.Kinds.{kind_of}
-use Rattle.words.specs.Designs.{is_source, sources, byte, input, max_nodes}
+use Rattle.words.specs.Designs.{is_source, byte}
 use Rattle.words.specs.Encoding.{node_word, feed_word, output_word}
 use Rattle.words.specs.Questions.{asked}
 use Rattle.words.specs.Drafts.{drafted, Sound, node_read, feed_read, output_read}
 use Rattle.words.specs.Taking.{Passed}
+use Rattle.words.proofs.Sources.{source_place}
 use Rattle.words.proofs.Stopping.{begins}
 use Rattle.words.proofs.Wholes.{whole_two, kind_found}
 use Rattle.words.proofs.Drafting.{still_open}
 use Rattle.words.proofs.Drafted.{node_drafted, node_sound, feed_drafted, feed_sound, output_drafted, output_sound}
 use Rattle.words.proofs.Taking.{yes}
-
--- a source has its place in a row
-source_place : (n j : ℕ) → n ≤ max_nodes → is_source n j ≡ true → j < sources
-source_place n j few heard =
-    ⊎_elim
-    (λ (l : ltb j n ≡ true). omega (arith, ltb-true j n l))
-    (λ (e : eqb j input ≡ true). omega (arith, eqb-true j input e))
-    (or_cases (ltb j n) (eqb j input) heard)
 
 -- what a word adds to a draft
 abbrev pub Adds : Draft → Draft → ℕ → Type 0

@@ -1,18 +1,18 @@
 -- The questions at a word, as the reader puts them to its draft.
-use Rattle.std.proofs.Common.{◌≡◌, ℕ, ◌-◌, Bool, true, false, not, ◌&&◌, eqb, ltb, leb, List, length, is_some, Some, None, refl, ap, ◌∙◌, arith, Option}
+use Rattle.std.proofs.Common.{◌≡◌, ℕ, Bool, true, false, not, ◌&&◌, eqb, ltb, leb, List, length, is_some, Some, None, refl, ap, ◌∙◌, arith, Option}
 use Rattle.std.proofs.lemmas.Bool.{ne_eqb}
 use Rattle.words.specs.declared.kinds.Kind.{Kind}
 use Rattle.words.specs.declared.kinds.Kind.TheVariants as kind
-use Rattle.words.specs.declared.kinds.DesignWord.{DesignWord}
 use Rattle.words.specs.declared.draft.Draft.{Draft}
 use Rattle.words.specs.Fields.{field}
-use Rattle.words.specs.Kinds.{kind_of, named_bits, unnamed}
-use Rattle.words.specs.Questions.{asked, may_stand, fields_in_range, in_order, ends_well, count_of, nodes_in}
+use Rattle.words.specs.Kinds.{kind_of}
+use Rattle.words.specs.Questions.{design_format, asked, may_stand, fields_in_range, in_order, count_of, nodes_in}
+use Rattle.words.specs.Formats.{unnamed_of, clear_and_in_range, ends_well_in}
 use Rattle.words.specs.declared.faults.WordsQuestion.TheVariants as question
 use Rattle.words.specs.Refusals.{wrong_end}
 use Rattle.words.specs.Drafts.{drafted, Sound}
 use Rattle.words.specs.Taking.{Failed}
-use Rattle.words.proofs.Asking.{refuse_2, refuse_3, refuse_4, refuse_5, allow}
+use Rattle.words.proofs.FormatAsking.{refuse_2, refuse_3, refuse_4, refuse_5, allow}
 
 -- which kinds may stand after a draft's words
 abbrev pub stands_of : Draft → Option Kind → Bool
@@ -34,7 +34,7 @@ orders_of d w None = true
 
 -- whether a word of that kind is clear where it must be, and its fields in range
 abbrev pub in_range_of : Draft → ℕ → Option Kind → Bool
-in_range_of d w k = eqb (field (named_bits k) (28 - named_bits k) w) 0 && fields_in_range d.graph.count w k
+in_range_of d w k = eqb (unnamed_of design_format w k) 0 && fields_in_range d.graph.count w k
 
 module _ (d : Draft) (s : Sound d) where
   may_stand_is : (k : Option Kind) → may_stand (drafted d) k ≡ stands_of d k
@@ -56,34 +56,24 @@ module _ (d : Draft) (s : Sound d) where
   in_order_is w (Some kind.End) = refl
   in_order_is w None = refl
 
-  in_range_is : (w : ℕ) (k : Option Kind) → kind_of w ≡ k → (eqb (unnamed w) 0 && fields_in_range (count_of (drafted d)) w k) ≡ in_range_of d w k
-  in_range_is w k e =
-      ap (λ κ. eqb (field (named_bits κ) (28 - named_bits κ) w) 0 && fields_in_range (count_of (drafted d)) w k) e
-      ∙ ap (λ n. eqb (field (named_bits k) (28 - named_bits k) w) 0 && fields_in_range n w k) s.stands.count
+  in_range_is : (w : ℕ) (k : Option Kind) → clear_and_in_range design_format (drafted d) w k ≡ in_range_of d w k
+  in_range_is w k = ap (λ n. eqb (unnamed_of design_format w k) 0 && fields_in_range n w k) s.stands.count
 
   -- the answers at a word
   module _ (w : ℕ) (k : Option Kind) (e : kind_of w ≡ k) where
     pub no_2 : stands_of d k ≡ false → Failed (drafted d) w question.Kind
-    no_2 a after = refuse_2 (drafted d) w after k e (may_stand_is k ∙ a)
+    no_2 a after = refuse_2 design_format (drafted d) w after k e (may_stand_is k ∙ a)
 
     pub no_3 : stands_of d k ≡ true → in_range_of d w k ≡ false → Failed (drafted d) w question.Range
-    no_3 a b after = refuse_3 (drafted d) w after k e (may_stand_is k ∙ a) (in_range_is w k e ∙ b)
+    no_3 a b after = refuse_3 design_format (drafted d) w after k e (may_stand_is k ∙ a) (in_range_is w k ∙ b)
 
     pub no_4 : stands_of d k ≡ true → in_range_of d w k ≡ true → orders_of d w k ≡ false → Failed (drafted d) w question.Order
-    no_4 a b c after = refuse_4 (drafted d) w after k e (may_stand_is k ∙ a) (in_range_is w k e ∙ b) (in_order_is w k ∙ c)
+    no_4 a b c after = refuse_4 design_format (drafted d) w after k e (may_stand_is k ∙ a) (in_range_is w k ∙ b) (in_order_is w k ∙ c)
 
     pub no_5 : stands_of d k ≡ true → in_range_of d w k ≡ true → orders_of d w k ≡ true →
-        (after : List ℕ) → ends_well (drafted d) w after k ≡ false → asked (drafted d) w after ≡ Some (wrong_end (length (drafted d)))
-    no_5 a b c after h = refuse_5 (drafted d) w after k e (may_stand_is k ∙ a) (in_range_is w k e ∙ b) (in_order_is w k ∙ c) h
+        (after : List ℕ) → ends_well_in design_format (drafted d) w after k ≡ false → asked (drafted d) w after ≡ Some (wrong_end (length (drafted d)))
+    no_5 a b c after h = refuse_5 design_format (drafted d) w after k e (may_stand_is k ∙ a) (in_range_is w k ∙ b) (in_order_is w k ∙ c) h
 
   pub yes : (w : ℕ) (k : Option Kind) → kind_of w ≡ k → stands_of d k ≡ true → in_range_of d w k ≡ true → orders_of d w k ≡ true →
-      (after : List ℕ) → ends_well (drafted d) w after k ≡ true → asked (drafted d) w after ≡ None
-  yes w k e a b c after h = allow (drafted d) w after k e (may_stand_is k ∙ a) (in_range_is w k e ∙ b) (in_order_is w k ∙ c) h
-
--- what a word of one kind is known to be
-module _ (w : DesignWord) (k : Kind) (e : w.kind ≡ k) where
-  pub kind_as : kind_of w.word ≡ Some k
-  kind_as = w.kinded ∙ ap Some e
-
-  pub clear_as : {b : Bool} → b ≡ eqb (field (named_bits (Some w.kind)) (28 - named_bits (Some w.kind)) w.word) 0 → b ≡ eqb (field (named_bits (Some k)) (28 - named_bits (Some k)) w.word) 0
-  clear_as h = h ∙ ap (λ κ. eqb (field (named_bits (Some κ)) (28 - named_bits (Some κ)) w.word) 0) e
+      (after : List ℕ) → ends_well_in design_format (drafted d) w after k ≡ true → asked (drafted d) w after ≡ None
+  yes w k e a b c after h = allow design_format (drafted d) w after k e (may_stand_is k ∙ a) (in_range_is w k ∙ b) (in_order_is w k ∙ c) h

@@ -13,10 +13,10 @@ use Rattle.words.specs.Encoding.{feed_word, output_word, end_word, feed_words, n
 use Rattle.words.proofs.Wholes.{kind_made, low_field, high_field}
 use Rattle.words.proofs.Encodings.{nodes_in_range}
 
-first_same : {x y : ℕ} {xs ys : List ℕ} → x ∷ xs ≡ y ∷ ys → x ≡ y
+pub first_same : {x y : ℕ} {xs ys : List ℕ} → x ∷ xs ≡ y ∷ ys → x ≡ y
 first_same e = ap (λ l. get_or l 0 0) e
 
-rest_same : {x y : ℕ} {xs ys : List ℕ} → x ∷ xs ≡ y ∷ ys → xs ≡ ys
+pub rest_same : {x y : ℕ} {xs ys : List ℕ} → x ∷ xs ≡ y ∷ ys → xs ≡ ys
 rest_same e = ap (drop 1) e
 
 -- these words do not go on with a feed

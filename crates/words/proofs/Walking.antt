@@ -1,55 +1,42 @@
 -- Every word of a design's encoding passes the questions.
-use Rattle.std.proofs.Common.{◌≡◌, ℕ, suc, ◌+◌, ◌-◌, ◌*◌, ◌^◌, ◌<◌, ◌≤◌, true, false, cond, ◌&&◌, eqb, ltb, leb, List, [], ◌∷◌, ◌++◌, length, get_or, take, Some, None, Option, sym, refl, ap, ◌∙◌, subst, ⊎_elim, append_assoc, add-zero, add-suc, suc-add, zero-add, add-one, arith}
+use Rattle.std.proofs.Common.{◌≡◌, ℕ, suc, ◌+◌, ◌*◌, ◌^◌, ◌<◌, ◌≤◌, true, false, cond, ◌&&◌, ltb, leb, List, [], ◌∷◌, ◌++◌, length, get_or, take, Some, None, Option, sym, refl, ap, ◌∙◌, subst, append_assoc, add-zero, add-suc, suc-add, zero-add, add-one, arith}
 use Rattle.std.specs.List.{AllByRecursion}
 use Rattle.std.proofs.lemmas.List.{append-nil, length-take-le}
-use Rattle.std.proofs.lemmas.Bool.{lt-ltb, le-leb, eq-eqb, and_from, ltb-true, eqb-true, or_cases}
+use Rattle.std.proofs.lemmas.Bool.{lt-ltb, le-leb, eq-eqb, and_from}
 use Rattle.std.specs.Option.{option_or}
 use Rattle.words.specs.declared.graph.Node.{Node}
 use Rattle.words.specs.declared.graph.Output.{Output}
 use Rattle.words.specs.declared.graph.Graph.{Graph}
-use Rattle.words.specs.declared.kinds.Kind.{Kind}
 use Rattle.words.specs.declared.kinds.Kind.TheVariants as kind
 use Rattle.words.specs.Fields.{field}
-use Rattle.words.specs.Kinds.{kind_of, named_bits, unnamed, is_end}
-use Rattle.words.specs.Designs.{NodeInRange, InRange, is_source, sources, max_nodes, input, byte}
+use Rattle.words.specs.Kinds.{kind_of, is_end}
+use Rattle.words.specs.Designs.{NodeInRange, InRange, is_source, max_nodes, byte}
 use Rattle.words.specs.Encoding.{head_word, node_word, feed_word, output_word, end_word, feed_words, node_words, body, encoded}
-use Rattle.words.specs.Questions.{asked, refused_from, refused, count_of}
+use Rattle.words.specs.Questions.{design_format, asked, refused_from, refused, count_of}
+use Rattle.words.specs.Formats.{refused_from_in}
 use Rattle.words.specs.Drafts.{Stands}
 use Rattle.words.proofs.Wholes.{kind_made, low_field, clear_field, low_only, clear_only}
+use Rattle.words.proofs.Sources.{source_place}
 use Rattle.words.proofs.Standing.{stands_head, stands_node, stands_feed, stands_output}
-use Rattle.words.proofs.Asking.{allow}
+use Rattle.words.proofs.FormatAsking.{allow, hands_on}
 use Rattle.words.proofs.Encodings.{nodes_in_range, body_few}
-
--- a word that passes hands on to the next
-pub passes : (p : List ℕ) (w : ℕ) (after : List ℕ) (k : Option Kind) → kind_of w ≡ k → is_end k ≡ false → asked p w after ≡ None →
-    refused_from p (w ∷ after) ≡ refused_from (p ++ w ∷ []) after
-unfolding refused_from
-passes p w after k e more none =
-    ap (λ o. option_or o (cond (is_end (kind_of w)) None (refused_from (p ++ w ∷ []) after))) none
-    ∙ ap (λ κ. cond (is_end κ) None (refused_from (p ++ w ∷ []) after)) e
-    ∙ ap (λ b. cond b None (refused_from (p ++ w ∷ []) after)) more
-
--- the unnamed bits of a word of a known kind
-clear_as : (w : ℕ) (k : Option Kind) → kind_of w ≡ k → field (named_bits k) (28 - named_bits k) w ≡ 0 → unnamed w ≡ 0
-clear_as w k e h = ap (λ κ. field (named_bits κ) (28 - named_bits κ) w) e ∙ h
 
 -- the words of a row of feeds
 module _ (n seen : ℕ) (few : n ≤ max_nodes) (some : 0 < seen) where
   feed_passes : (p : List ℕ) (least j d : ℕ) → Stands p n seen least false → least ≤ j → d < byte → is_source n j ≡ true → (after : List ℕ) →
       Stands (p ++ feed_word j d ∷ []) n seen (suc j) false × (refused_from p (feed_word j d ∷ after) ≡ refused_from (p ++ feed_word j d ∷ []) after)
   feed_passes p least j d s above small heard after =
-      let place : j < sources =
-      ⊎_elim (λ (l : ltb j n ≡ true). omega (arith, ltb-true j n l)) (λ (e : eqb j input ≡ true). omega (arith, eqb-true j input e)) (or_cases (ltb j n) (eqb j input) heard) in
+      let place = source_place n j few heard in
       let k : kind_of (feed_word j d) ≡ (Some kind.Feed) = kind_made (Some kind.Feed) (d * 2 ^ 6 + j) (omega arith) in
       let from : field 0 6 (feed_word j d) ≡ j = low_field 6 8 14 3 j d refl (omega arith) small in
       let clear : field 14 14 (feed_word j d) ≡ 0 = clear_field 6 8 14 3 j d refl (omega arith) small in
       let none : asked p (feed_word j d) after ≡ None =
-      allow p (feed_word j d) after (Some kind.Feed) k (s.node ∙ ap (λ b. b && true) (lt-ltb 0 seen some))
-      (and_from _ _ (eq-eqb _ _ (clear_as (feed_word j d) (Some kind.Feed) k clear)) (ap (is_source (count_of p)) from ∙ ap (λ m. is_source m j) s.count ∙ heard))
+      allow design_format p (feed_word j d) after (Some kind.Feed) k (s.node ∙ ap (λ b. b && true) (lt-ltb 0 seen some))
+      (and_from _ _ (eq-eqb _ _ clear) (ap (is_source (count_of p)) from ∙ ap (λ m. is_source m j) s.count ∙ heard))
       (ap (λ m. leb m (field 0 6 (feed_word j d))) s.least ∙ ap (leb least) from ∙ le-leb least j above)
       refl in (
         subst (λ m. Stands (p ++ feed_word j d ∷ []) n seen (suc m) false) from (stands_feed p n seen least s (feed_word j d) some k),
-        passes p (feed_word j d) after (Some kind.Feed) k refl none,
+        hands_on design_format p (feed_word j d) after (Some kind.Feed) k refl none,
       )
 
   pub feeds_pass : (fs : List (Option ℕ)) (p : List ℕ) (least j : ℕ) → Stands p n seen least false → least ≤ j →
@@ -77,11 +64,11 @@ module _ (n : ℕ) (few : n ≤ max_nodes) where
       let number : field 0 5 (node_word i operation) ≡ i = low_field 5 8 15 2 i operation refl (omega arith) small in
       let clear : field 13 15 (node_word i operation) ≡ 0 = clear_field 5 8 15 2 i operation refl (omega arith) small in
       let none : asked p (node_word i operation) after ≡ None =
-      allow p (node_word i operation) after (Some kind.Node) k (ap (λ m. ltb m (count_of p)) s.nodes ∙ ap (ltb i) s.count ∙ lt-ltb i n l)
-      (and_from _ _ (eq-eqb _ _ (clear_as (node_word i operation) (Some kind.Node) k clear)) (ap (λ m. ltb m (count_of p)) number ∙ ap (ltb i) s.count ∙ lt-ltb i n l))
+      allow design_format p (node_word i operation) after (Some kind.Node) k (ap (λ m. ltb m (count_of p)) s.nodes ∙ ap (ltb i) s.count ∙ lt-ltb i n l)
+      (and_from _ _ (eq-eqb _ _ clear) (ap (λ m. ltb m (count_of p)) number ∙ ap (ltb i) s.count ∙ lt-ltb i n l))
       (eq-eqb _ _ (number ∙ sym s.nodes)) refl in (
         subst (λ m. Stands (p ++ node_word i operation ∷ []) n m 0 false) (add-one i) (stands_node p n i least s (node_word i operation) k),
-        passes p (node_word i operation) after (Some kind.Node) k refl none,
+        hands_on design_format p (node_word i operation) after (Some kind.Node) k refl none,
       )
 
   pub nodes_pass : (nodes : List Node) (p : List ℕ) (least i : ℕ) → Stands p n i least false → i + length nodes ≤ n → AllByRecursion (NodeInRange n) nodes → (after : List ℕ) →
@@ -112,9 +99,9 @@ head_passes n some few after =
     let count : field 0 6 (head_word n) ≡ n = low_only 6 22 1 n refl (omega arith) in
     let clear : field 6 22 (head_word n) ≡ 0 = clear_only 6 22 1 n refl (omega arith) in
     let none : asked [] (head_word n) after ≡ None =
-    allow [] (head_word n) after (Some kind.Head) k refl
-    (and_from _ _ (eq-eqb _ _ (clear_as (head_word n) (Some kind.Head) k clear)) (ap (λ m. leb 1 m && leb m max_nodes) count ∙ and_from _ _ (le-leb 1 n some) (le-leb n max_nodes few))) refl refl in
-    (subst (λ m. Stands (head_word n ∷ []) m 0 0 false) count (stands_head (head_word n) k), passes [] (head_word n) after (Some kind.Head) k refl none)
+    allow design_format [] (head_word n) after (Some kind.Head) k refl
+    (and_from _ _ (eq-eqb _ _ clear) (ap (λ m. leb 1 m && leb m max_nodes) count ∙ and_from _ _ (le-leb 1 n some) (le-leb n max_nodes few))) refl refl in
+    (subst (λ m. Stands (head_word n ∷ []) m 0 0 false) count (stands_head (head_word n) k), hands_on design_format [] (head_word n) after (Some kind.Head) k refl none)
 
 output_passes : (p : List ℕ) (n least : ℕ) (o : Output) → Stands p n n least false → 1 ≤ n → n ≤ max_nodes → o.node < n → o.delay < byte → (after : List ℕ) →
     Stands (p ++ output_word o ∷ []) n n 0 true × (refused_from p (output_word o ∷ after) ≡ refused_from (p ++ output_word o ∷ []) after)
@@ -123,20 +110,20 @@ output_passes p n least o s some few l small after =
     let node : field 0 6 (output_word o) ≡ o.node = low_field 6 8 14 4 o.node o.delay refl (omega arith) small in
     let clear : field 14 14 (output_word o) ≡ 0 = clear_field 6 8 14 4 o.node o.delay refl (omega arith) small in
     let none : asked p (output_word o) after ≡ None =
-    allow p (output_word o) after (Some kind.Output) k
+    allow design_format p (output_word o) after (Some kind.Output) k
     (and_from _ _ (s.node ∙ ap (λ b. b && true) (lt-ltb 0 n some)) (eq-eqb _ _ (s.nodes ∙ sym s.count)))
-    (and_from _ _ (eq-eqb _ _ (clear_as (output_word o) (Some kind.Output) k clear)) (ap (λ m. ltb m (count_of p)) node ∙ ap (ltb o.node) s.count ∙ lt-ltb o.node n l)) refl refl in
-    (stands_output p n n least s (output_word o) some k, passes p (output_word o) after (Some kind.Output) k refl none)
+    (and_from _ _ (eq-eqb _ _ clear) (ap (λ m. ltb m (count_of p)) node ∙ ap (ltb o.node) s.count ∙ lt-ltb o.node n l)) refl refl in
+    (stands_output p n n least s (output_word o) some k, hands_on design_format p (output_word o) after (Some kind.Output) k refl none)
 
 end_passes : (p : List ℕ) (n seen least : ℕ) → Stands p n seen least true → length p ≤ 1090 → refused_from p (end_word (length p + 1) ∷ []) ≡ None
-unfolding refused_from
+unfolding refused_from_in
 end_passes p n seen least s few =
     let w : ℕ = end_word (length p + 1) in
     let k : kind_of w ≡ (Some kind.End) = kind_made (Some kind.End) (length p + 1) (omega arith) in
     let count : field 0 11 w ≡ length p + 1 = low_only 11 17 5 (length p + 1) refl (omega arith) in
     let clear : field 11 17 w ≡ 0 = clear_only 11 17 5 (length p + 1) refl (omega arith) in
     let none : asked p w [] ≡ None =
-    allow p w [] (Some kind.End) k s.output (and_from _ _ (eq-eqb _ _ (clear_as w (Some kind.End) k clear)) refl) refl (and_from _ _ (eq-eqb _ _ count) refl) in
+    allow design_format p w [] (Some kind.End) k s.output (and_from _ _ (eq-eqb _ _ clear) refl) refl (and_from _ _ (eq-eqb _ _ count) refl) in
     ap (λ o. option_or o (cond (is_end (kind_of w)) None (refused_from (p ++ w ∷ []) []))) none ∙ ap (λ κ. cond (is_end κ) None (refused_from (p ++ w ∷ []) [])) k
 
 -- the law: nothing of a design's encoding is refused

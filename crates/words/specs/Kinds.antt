@@ -1,11 +1,10 @@
 -- The kinds of design words.
-use Rattle.std.specs.Prelude.{ℕ, ◌-◌, Bool, cond, ◌==◌, Some, None, Option, Result}
-use Rattle.std.specs.Option.{ok_or}
+use Rattle.std.specs.Prelude.{ℕ, Bool, cond, ◌==◌, Some, None, Option, Result}
 use Rattle.words.specs.declared.faults.WordsQuestion.{WordsQuestion}
-use Rattle.words.specs.declared.faults.WordsQuestion.TheVariants as question
 use Rattle.words.specs.declared.kinds.Kind.{Kind}
 use Rattle.words.specs.declared.kinds.Kind.TheVariants as kind
-use Rattle.words.specs.Fields.{field, kind_number}
+use Rattle.words.specs.Fields.{kind_number}
+use Rattle.words.specs.Refusals.{known_kind}
 
 -- the number that stands in bits 31 to 28
 abbrev pub number_of : Option Kind → ℕ
@@ -25,7 +24,7 @@ kind_of w = kind_numbered (kind_number w)
 
 -- a kind where there is one, and else the question whether it may stand
 abbrev pub known : Option Kind → Result Kind WordsQuestion
-known k = ok_or k question.Kind
+known = known_kind
 
 -- how many bits at a word's low end are named; those from there up to bit 27 are not
 abbrev pub named_bits : Option Kind → ℕ
@@ -35,9 +34,6 @@ named_bits (Some kind.Feed) = 14
 named_bits (Some kind.Output) = 14
 named_bits (Some kind.End) = 11
 named_bits None = 0
-
-abbrev pub unnamed : ℕ → ℕ
-unnamed w = field (named_bits (kind_of w)) (28 - named_bits (kind_of w)) w
 
 -- whether a word's kind is that one
 abbrev pub is_kind : Kind → Option Kind → Bool

@@ -1,13 +1,12 @@
 -- The questions that are put at each design word in turn, over the words so far and the word at hand.
-use Rattle.std.specs.Prelude.{ℕ, suc, ◌+◌, ◌-◌, Bool, true, false, cond, ◌&&◌, ◌||◌, List, [], ◌∷◌, ◌++◌, length, Some, None, count_by, Option, ◌==◌, nat_le, nat_lt, slice_index}
-use Rattle.std.specs.Option.{option_or}
+use Rattle.std.specs.Prelude.{ℕ, suc, ◌-◌, Bool, true, false, cond, ◌&&◌, ◌||◌, List, length, Some, None, count_by, Option, ◌==◌, nat_le, nat_lt, slice_index}
 use Rattle.words.specs.declared.faults.Fault.{Fault}
 use Rattle.words.specs.declared.kinds.Kind.{Kind}
 use Rattle.words.specs.declared.kinds.Kind.TheVariants as kind
 use Rattle.words.specs.Fields.{field}
-use Rattle.words.specs.Kinds.{kind_of, unnamed, is_node, is_feed, is_output, is_end}
+use Rattle.words.specs.Kinds.{kind_of, kind_numbered, named_bits, is_node, is_feed, is_output, is_end}
 use Rattle.words.specs.Designs.{is_source, max_nodes}
-use Rattle.words.specs.Refusals.{no_word, misplaced, out_of_range, out_of_order, wrong_end}
+use Rattle.words.specs.Formats.{Format, asked_in, refused_from_in, refused_in}
 
 -- the design's number of nodes, from the head; 0 before there is one
 unfoldable pub count_of : List ℕ → ℕ
@@ -59,34 +58,26 @@ in_order before w (Some kind.Output) = true
 in_order before w (Some kind.End) = true
 in_order before w None = true
 
--- 5: at the end, is its count right, and is it the last given?
-abbrev pub ends_well : List ℕ → ℕ → List ℕ → Option Kind → Bool
-ends_well before w after (Some kind.Head) = true
-ends_well before w after (Some kind.Node) = true
-ends_well before w after (Some kind.Feed) = true
-ends_well before w after (Some kind.Output) = true
-ends_well before w after (Some kind.End) = field 0 11 w == length before + 1 && length after == 0
-ends_well before w after None = true
+-- the format of design words
+abbrev pub design_format : Format Kind
+design_format =
+    record {
+      numbered = kind_numbered;
+      named = named_bits;
+      ends = is_end;
+      may_stand = may_stand;
+      in_range = λ before. fields_in_range (count_of before);
+      in_order = in_order;
+    }
 
--- what is refused at a word of that kind: the first question answered no
-abbrev pub asked_of : List ℕ → ℕ → List ℕ → Option Kind → Option Fault
-asked_of before w after k =
-    cond (may_stand before k)
-    (cond (unnamed w == 0 && fields_in_range (count_of before) w k)
-    (cond (in_order before w k)
-    (cond (ends_well before w after k) None (Some (wrong_end (length before))))
-    (Some (out_of_order (length before))))
-    (Some (out_of_range (length before))))
-    (Some (misplaced (length before)))
-
-unfoldable pub asked : List ℕ → ℕ → List ℕ → Option Fault
-asked before w after = asked_of before w after (kind_of w)
+-- what is refused at a word, given the words before it and those after it: the first question answered no
+abbrev pub asked : List ℕ → ℕ → List ℕ → Option Fault
+asked = asked_in design_format
 
 -- what is refused of the words from here on: each in turn, up to the end word
-unfoldable pub refused_from : List ℕ → List ℕ → Option Fault
-refused_from before [] = Some (no_word (length before))
-refused_from before (w ∷ after) = option_or (asked before w after) (cond (is_end (kind_of w)) None (refused_from (before ++ w ∷ []) after))
+abbrev pub refused_from : List ℕ → List ℕ → Option Fault
+refused_from = refused_from_in design_format
 
 -- the first question answered no, at the lowest word that has one
 abbrev pub refused : List ℕ → Option Fault
-refused words = refused_from [] words
+refused = refused_in design_format

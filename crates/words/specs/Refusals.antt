@@ -1,5 +1,6 @@
 -- A refusal by each layer: its question and its places; and every refusal of the word reader.
-use Rattle.std.specs.Prelude.{ℕ}
+use Rattle.std.specs.Prelude.{ℕ, Option, Result}
+use Rattle.std.specs.Option.{ok_or}
 use Rattle.words.specs.declared.faults.Fault.{Fault}
 use Rattle.words.specs.declared.faults.Fault.TheVariants.{Words, Design, Bench, Machine}
 use Rattle.words.specs.declared.faults.WordsQuestion.{WordsQuestion}
@@ -32,10 +33,21 @@ misplaced index = words_fault question.Kind index
 abbrev pub out_of_range : ℕ → Fault
 out_of_range index = words_fault question.Range index
 
--- 4: is a node the next in order, a feed above the last one of its node?
+-- 4: is a node or line the next in order, a cell new, a feed or tap above the last one of its node or cell?
 abbrev pub out_of_order : ℕ → Fault
 out_of_order index = words_fault question.Order index
 
 -- 5: at the end word, is its count right and is it the last given?
 abbrev pub wrong_end : ℕ → Fault
 wrong_end index = words_fault question.End index
+
+-- a word's kind where there is one, and else the question whether it may stand
+abbrev pub known_kind : {K : Type 0} → Option K → Result K WordsQuestion
+known_kind k = ok_or k question.Kind
+
+-- a refusal's first place
+abbrev pub place_of : Fault → ℕ
+place_of (Words f) = f.place
+place_of (Design f) = f.place
+place_of (Bench f) = f.place
+place_of (Machine f) = f.place

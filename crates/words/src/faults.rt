@@ -19,7 +19,7 @@ pub enum WordsQuestion {
     Kind = 2,
     /// Are unnamed bits zero and all fields in range?
     Range = 3,
-    /// Is a node the next in order, a feed above the last one of its node?
+    /// Is a node or line the next in order, a cell new, a feed or tap above the last one of its node or cell?
     Order = 4,
     /// At the end word, is its count right and is it the last given?
     End = 5,

@@ -1,9 +1,11 @@
 //! Reading design words: the questions at each word in turn.
 
 ghost use Rattle.std.specs.Prelude.{◌≡◌, ◌<◌, length};
-ghost use Rattle.words.specs.Designs.{is_source};
+ghost use Rattle.words.specs.Designs.{InRange, is_source};
+ghost use Rattle.words.specs.Encoding.{encoded};
+ghost use Rattle.words.specs.Questions.{design_format};
 ghost use Rattle.words.specs.Drafts.{headed};
-ghost use Rattle.words.specs.Taking.{Begun, Taken, Ended, Read};
+ghost use Rattle.words.specs.Taking.{Taken, Ended};
 ghost use Rattle.words.specs.Reading.{Reads, ReadsBack};
 
 use crate::design::Design;
@@ -11,6 +13,7 @@ use crate::draft::Draft;
 use crate::faults::{Fault, WordsQuestion};
 use crate::graph::{Graph, INPUT, MAX_NODES, Node, Output, SOURCES};
 use crate::kinds::{DesignWord, Kind};
+use crate::reading::{Reading, read_words};
 use std::marker::Model;
 
 /// A design whose words are being read. It is seen as the words so far.
@@ -62,23 +65,6 @@ impl Graph {
 }
 
 impl Reader {
-    /// Reads the head word.
-    fn begin(word: u32) -> Result<Reader, WordsQuestion>
-        ensures { Begun word result }
-    {
-        let word = DesignWord::try_from(word)?;
-        if word.kind != Kind::Head {
-            return Err(WordsQuestion::Kind);
-        }
-        let count = word.field(0, 6) as usize;
-        if !word.is_clear() || count < 1 || count > MAX_NODES {
-            return Err(WordsQuestion::Range);
-        }
-        Ok(Reader {
-            draft: Draft::headed(count),
-        })
-    }
-
     /// Takes a node word.
     fn node(&mut self, word: DesignWord) -> Result<(), WordsQuestion>
         requires { word.kind ≡ Kind.Node }
@@ -142,14 +128,15 @@ impl Reader {
     }
 
     /// Reads the end word, which has that index among `given` words.
-    fn end(&self, word: DesignWord, index: usize, given: usize) -> Result<Design, WordsQuestion>
+    fn end(&self, word: DesignWord, index: usize, given: usize) -> Result<(), WordsQuestion>
         requires kind { word.kind ≡ Kind.End }
         requires index { index ≡ length self.now }
         requires given { index < given }
         ensures { Ended self.now word.word given result }
     {
-        let draft = &self.draft;
-        let output = draft.output.ok_or(WordsQuestion::Kind)?;
+        if self.draft.output.is_none() {
+            return Err(WordsQuestion::Kind);
+        }
         if !word.is_clear() {
             return Err(WordsQuestion::Range);
         }
@@ -157,55 +144,66 @@ impl Reader {
         if count != index + 1 || given != index + 1 {
             return Err(WordsQuestion::End);
         }
-        Ok(Design {
-            graph: Graph {
-                output,
-                ..draft.graph
-            },
-            size: given,
+        Ok(())
+    }
+}
+
+impl Reading for Reader {
+    type Kind = Kind;
+
+    type Table = Graph;
+
+    type Whole = Design;
+
+    ghost format = { design_format };
+
+    ghost in_range = { InRange };
+
+    ghost encoded = { encoded };
+
+    ghost table = { λ design. design.graph };
+
+    ghost words = { λ words. words };
+
+    fn begin(word: u32) -> Result<Reader, WordsQuestion> {
+        let word = DesignWord::try_from(word)?;
+        if word.kind != Kind::Head {
+            return Err(WordsQuestion::Kind);
+        }
+        let count = word.field(0, 6) as usize;
+        if !word.is_clear() || count < 1 || count > MAX_NODES {
+            return Err(WordsQuestion::Range);
+        }
+        Ok(Reader {
+            draft: Draft::headed(count),
         })
     }
 
-    /// Reads the word with that index among `given` words; the design where it is the end.
-    fn read(
-        &mut self,
-        word: u32,
-        index: usize,
-        given: usize,
-    ) -> Result<Option<Design>, WordsQuestion>
-        requires index { index ≡ length self.old }
-        requires some { 0 < index }
-        requires given { index < given }
-        ensures { Read self.old self.new word given result }
-    {
+    fn read(&mut self, word: u32, index: usize, given: usize) -> Result<bool, WordsQuestion> {
         let word = DesignWord::try_from(word)?;
         match word.kind {
             Kind::Head => return Err(WordsQuestion::Kind),
             Kind::Node => self.node(word)?,
             Kind::Feed => self.feed(word)?,
             Kind::Output => self.output(word)?,
-            Kind::End => return Ok(Some(self.end(word, index, given)?)),
+            Kind::End => {
+                self.end(word, index, given)?;
+                return Ok(true);
+            }
         }
-        Ok(None)
+        Ok(false)
     }
-}
 
-/// Reads the words in turn up to the end word.
-fn read_words(words: &[u32]) -> Result<Design, Fault>
-    ensures { Reads words.now result }
-{
-    let (head, rest) = words.split_first().ok_or(WordsQuestion::Word.at(0))?;
-    let mut reader = Reader::begin(*head).map_err(|question| question.at(0))?;
-    for (read, word) in rest.iter().enumerate() {
-        let index = read + 1;
-        let design = reader
-            .read(*word, index, words.len())
-            .map_err(|question| question.at(index))?;
-        if let Some(design) = design {
-            return Ok(design);
+    fn finish(self, given: usize) -> Design {
+        let Draft { graph, output, .. } = self.draft;
+        Design {
+            graph: Graph {
+                output: output.unwrap_or(graph.output),
+                ..graph
+            },
+            size: given,
         }
     }
-    Err(WordsQuestion::Word.at(words.len()))
 }
 
 /// Reads a design from its words: the design, or the first question answered no.
@@ -213,5 +211,5 @@ pub fn read_design(words: &[u32]) -> Result<Design, Fault>
     ensures reads { Reads words.now result }
     ensures reads_back { ReadsBack words.now result }
 {
-    read_words(words)
+    read_words::<Reader>(words)
 }

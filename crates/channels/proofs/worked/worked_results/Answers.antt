@@ -2,7 +2,7 @@ use Rattle.channels.proofs.Computed as computed
 use Rattle.channels.proofs.InRange.{e_in_range, loop_in_range, delayed_in_range, fir_in_range}
 use Rattle.channels.proofs.Loops.{loop_refused}
 use Rattle.channels.proofs.Sources.{e_first, e_second, e_outputs}
-use Rattle.channels.proofs.Steps.{e_steps}
+use Rattle.channels.proofs.Stepped.{e_steps}
 use Rattle.channels.proofs.worked.worked_results.Goals as goal
 
 pub returns : goal.returns

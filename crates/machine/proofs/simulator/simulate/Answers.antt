@@ -1,11 +1,11 @@
-use Rattle.std.proofs.Common.{◌≡◌, ℕ, ◌+◌, ◌*◌, ◌<◌, ◌≤◌, true, ◌||◌, eqb, List, length, get_or, take, drop, ◌++◌, set, is_some, None, Ok, sym, refl, ap, ◌∙◌, subst, ⊎_elim, arith}
+use Rattle.std.proofs.Common.{◌≡◌, ℕ, ◌+◌, ◌*◌, ◌<◌, ◌≤◌, List, length, get_or, take, drop, ◌++◌, set, is_some, None, Ok, sym, refl, ap, ◌∙◌, subst, ⊎_elim, arith}
 use Rattle.std.proofs.lemmas.List.{length-take-le, length-append, length-drop, get_or_append_left, get_or-set_same, get_or-set_other}
 use Rattle.std.proofs.lemmas.Slice.{drop-append-drop}
-use Rattle.std.proofs.lemmas.Bool.{true≢false, cases_lt, lt-ltb}
+use Rattle.std.proofs.lemmas.Bool.{true≢false, cases_lt}
 use Rattle.words.specs.declared.graph.Graph.{Graph}
 use Rattle.words.specs.declared.graph.Output.{Output}
 use Rattle.words.specs.declared.design.Design.{Design}
-use Rattle.words.specs.Designs.{InRange, is_source, input}
+use Rattle.words.specs.Designs.{InRange}
 use Rattle.words.proofs.Ranges.{ranges}
 use Rattle.bench.specs.Retimings.{order, at_rest}
 use Rattle.bench.proofs.Outcomes.{unless_none}
@@ -14,13 +14,9 @@ use Rattle.machine.specs.Values.{Solves, output}
 use Rattle.machine.specs.Simulation.{Filled, Simulated, Simulates}
 use Rattle.machine.specs.Buffers.{value_in, rest_in, input_in, heard_in}
 use Rattle.machine.specs.Refusals.{simulate_fault}
-use Rattle.machine.proofs.Histories.{determined}
+use Rattle.machine.proofs.Histories.{determined, node_source}
 use Rattle.machine.proofs.Simulating.{output_heard, output_held, held_solves}
 use Rattle.machine.proofs.simulator.simulate.Goals as goal
-
--- a node is a source
-node_source : (n j : ℕ) → j < n → is_source n j ≡ true
-node_source n j l = ap (λ b. b || eqb j input) (lt-ltb j n l)
 
 -- one output more
 outputs_more : {E : Type 0} (row : List E) (e d : E) (t : ℕ) (y : ℕ → E) → t < length row → e ≡ y t → ((s : ℕ) → s < t → get_or row s d ≡ y s) → (s : ℕ) → s < t + 1 → get_or (set row t e) s d ≡ y s
@@ -85,7 +81,7 @@ loop-time-preserved g c =
           let before = c.loop-time.invariant.filled d v solves in
           let filled = c.fire.ensures.values graph (order graph at_rest) range c.of-plan.ensures.ranked whole d v (subst (λ q. Solves graph q rest x v) (sym c.loop-time.invariant.same) solves) before.0 in
           let new : c.hears.result ≡ output graph rest v t =
-          same_heard c.count-count.result graph.count c.output-output.result graph.output c.args.rest.now c.args.inputs.now h d t c.hears.result n out (c.hears.ensures d)
+          same_heard c.count-count.result graph.count c.output-output.result graph.output c.args.rest.now c.args.inputs.now h d t c.hears.result n out (c.hears.ensures d ∙ ap (λ delay. heard_in c.count-count.result c.args.rest.now c.args.inputs.now h d t c.output-output.result.node delay) c.from.ensures)
           ∙ output_heard graph range (order graph at_rest) (m c.args.library.now) rest x v h d (t + 1) filled t (omega arith) in
           (filled, outputs_more c.loop-time.place-items c.hears.result d t (output graph rest v) (omega (arith, c.loop-time-test.true, c.loop-time.auto.place-items)) new before.1);
     }

@@ -1,9 +1,11 @@
 use Rattle.words.proofs.Ranges.{ranges}
+use Rattle.bench.specs.Firing.{place_in}
 use Rattle.bench.specs.Retimings.{order as order-of}
 use Rattle.bench.proofs.Complete.{ranked_order}
 use Rattle.bench.proofs.Soundness.{sound}
+use Rattle.machine.specs.Arrays.{array_of}
 use Rattle.machine.proofs.Channels.{channels}
-use Rattle.machine.proofs.Cycles.{array_determined}
+use Rattle.machine.proofs.Cycles.{determined as array_determined, in_firing_order}
 use Rattle.machine.proofs.Histories.{determined}
 use Rattle.machine.proofs.values.value_order.Goals as goal
 
@@ -19,7 +21,8 @@ returns g c =
       ranked = ranked;
       determined = λ m rest x. determined graph range order ranked m rest x;
       array = λ m rest x.
-          array_determined graph range bench.retiming (order-of graph bench.retiming)
-          (ranked_order graph range.few bench.retiming (sound graph bench.retiming bench.sound) bench.ordered) m rest x;
+          let fires = ranked_order graph range.few bench.retiming (sound graph bench.retiming bench.sound) bench.ordered in
+          let firing = order-of graph bench.retiming in
+          array_determined (array_of graph bench.retiming) (place_in firing) (in_firing_order graph range bench.retiming firing fires) m rest x;
       channels = λ m. channels graph range bench.retiming (sound graph bench.retiming bench.sound) order ranked m;
     }

@@ -1,5 +1,9 @@
-use Rattle.words.proofs.Refusing.{back}
+use Rattle.words.proofs.Refusing.{back, begins_none}
+use Rattle.words.proofs.Walking.{encoded_passes}
 use Rattle.words.proofs.reader.read_design.Goals as goal
 
+pub returns-clause-reads : goal.returns-clause-reads
+returns-clause-reads c = c.read_words.ensures encoded_passes begins_none
+
 pub returns-clause-reads_back : goal.returns-clause-reads_back
-returns-clause-reads_back c = back c.args.words.now c.read_words.result c.read_words.ensures
+returns-clause-reads_back c = back c.args.words.now c.read_words.result (c.read_words.ensures encoded_passes begins_none)

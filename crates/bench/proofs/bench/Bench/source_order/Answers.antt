@@ -1,27 +1,13 @@
-use Rattle.std.proofs.Common.{ℕ, List, Some, sym, ap, ap₂, ◌∙◌, subst}
-use Rattle.std.specs.Option.{option_map}
+use Rattle.std.proofs.Common.{sym, ap₂, ◌∙◌, subst}
 use Rattle.words.specs.declared.design.Design.{Design}
 use Rattle.words.specs.declared.graph.Graph.{Graph}
 use Rattle.words.specs.Designs.{feed_at}
 use Rattle.words.proofs.Ranges.{ranges}
 use Rattle.bench.specs.Orders.{Ranked}
-use Rattle.bench.specs.Retimings.{at_rest, delay_of, current_delay, order}
-use Rattle.bench.proofs.AtRest.{rest_delay, sound_rest}
-use Rattle.bench.proofs.Complete.{ranked_order}
+use Rattle.bench.specs.Retimings.{at_rest, order}
+use Rattle.bench.proofs.AtRest.{sound_rest}
+use Rattle.bench.proofs.Complete.{ranked_order, ranked_rest}
 use Rattle.bench.proofs.bench.Bench.source_order.Goals as goal
-
--- at rest the current delays are the design's own
-ranked_rest : (g : Graph) (l : List ℕ) → Ranked g.count (current_delay g at_rest) l → Ranked g.count (feed_at g) l
-ranked_rest g l f =
-    record {
-      whole = f.whole;
-      every = f.every;
-      only = f.only;
-      once = f.once;
-      below = f.below;
-      found = f.found;
-      rises = λ i j li lj e. f.rises i j li lj (ap (option_map (delay_of at_rest i j)) e ∙ ap Some (rest_delay i j 0));
-    }
 
 pub returns : goal.returns
 returns c =

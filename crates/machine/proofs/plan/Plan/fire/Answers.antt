@@ -1,8 +1,8 @@
 use Rattle.std.proofs.Common.{◌≡◌, ℕ, ◌+◌, ◌*◌, ◌<◌, List, map, length, get_or, sym, ap, ◌∙◌, subst, arith, rules}
 use Rattle.std.proofs.lemmas.List.{drop-set-lt}
 use Rattle.cells.specs.Meaning.{Meaning, applied}
-use Rattle.machine.specs.declared.tap.Tap.{Tap}
-use Rattle.machine.specs.declared.tap.Cell.{Cell}
+use Rattle.words.specs.declared.program_table.Tap.{Tap}
+use Rattle.machine.specs.declared.cell.Cell.{Cell}
 use Rattle.machine.specs.Values.{operand}
 use Rattle.machine.specs.Plans.{Planned, Ready}
 use Rattle.machine.specs.Buffers.{rest_in, input_in, heard_in}

@@ -7,7 +7,7 @@ use Rattle.words.specs.Designs.{feed_at}
 use Rattle.words.proofs.Ranges.{ranges}
 use Rattle.bench.specs.Orders.{Ranked}
 use Rattle.bench.specs.Retimings.{order, at_rest}
-use Rattle.machine.specs.declared.tap.Cell.{Cell}
+use Rattle.machine.specs.declared.cell.Cell.{Cell}
 use Rattle.machine.specs.Plans.{Planned, Whole}
 use Rattle.machine.proofs.Planning.{all_ready}
 use Rattle.machine.proofs.plan.Plan.of.Goals as goal

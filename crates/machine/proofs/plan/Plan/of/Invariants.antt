@@ -1,7 +1,7 @@
 use Rattle.std.proofs.Common.{◌≡◌, ℕ, ◌<◌, get_or}
 use Rattle.arrayvec.specs.ArrayVec.{array_vec_len}
 use Rattle.bench.specs.Retimings.{order, at_rest}
-use Rattle.machine.specs.declared.tap.Cell.{Cell}
+use Rattle.machine.specs.declared.cell.Cell.{Cell}
 use Rattle.machine.specs.Plans.{Planned}
 use Rattle.machine.proofs.plan.Plan.of.Given as goal
 

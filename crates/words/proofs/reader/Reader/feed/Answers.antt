@@ -7,7 +7,8 @@ use Rattle.words.specs.Designs.{is_source}
 use Rattle.words.specs.Drafts.{drafted, feed_read}
 use Rattle.words.specs.Taking.{Failed, Passed}
 use Rattle.words.proofs.Drafting.{none_from}
-use Rattle.words.proofs.Taking.{kind_as, clear_as, no_2, no_3, no_4}
+use Rattle.words.proofs.Kinded.{kind_as, clear_as}
+use Rattle.words.proofs.Taking.{no_2, no_3, no_4}
 use Rattle.words.proofs.Takes.{feed_adds, Adds}
 use Rattle.words.proofs.reader.Reader.feed.Goals as goal
 use Rattle.words.proofs.reader.Reader.feed.Goals.{then-draft-eq0-via-then-draft-eq0, then-draft-eq0-via-else-draft-eq0+then-is_some, then-not-is_clear-via-then-not-is_clear, then-not-is_clear-via-else-not-is_clear+then-not-has_source}

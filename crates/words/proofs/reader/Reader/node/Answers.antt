@@ -5,7 +5,8 @@ use Rattle.words.specs.declared.kinds.Kind.TheVariants as kind
 use Rattle.words.specs.Fields.{field}
 use Rattle.words.specs.Drafts.{drafted, node_read}
 use Rattle.words.specs.Taking.{Failed, Passed}
-use Rattle.words.proofs.Taking.{kind_as, clear_as, no_2, no_3, no_4}
+use Rattle.words.proofs.Kinded.{kind_as, clear_as}
+use Rattle.words.proofs.Taking.{no_2, no_3, no_4}
 use Rattle.words.proofs.Takes.{node_adds, Adds}
 use Rattle.words.proofs.reader.Reader.node.Goals as goal
 use Rattle.words.proofs.reader.Reader.node.Goals.{then-not-is_clear-via-then-not-is_clear, then-not-is_clear-via-else-not-is_clear+then-number-draft}

@@ -6,7 +6,8 @@ use Rattle.words.specs.Fields.{field}
 use Rattle.words.specs.Drafts.{drafted, output_read}
 use Rattle.words.specs.Taking.{Failed, Passed}
 use Rattle.words.proofs.Drafting.{none_from}
-use Rattle.words.proofs.Taking.{kind_as, clear_as, no_2, no_3}
+use Rattle.words.proofs.Kinded.{kind_as, clear_as}
+use Rattle.words.proofs.Taking.{no_2, no_3}
 use Rattle.words.proofs.Takes.{output_adds, Adds}
 use Rattle.words.proofs.reader.Reader.output.Goals as goal
 use Rattle.words.proofs.reader.Reader.output.Goals.{then-draft-via-then-draft, then-draft-via-else-draft+then-is_some, then-not-is_clear-via-then-not-is_clear, then-not-is_clear-via-else-not-is_clear+then-node-draft}

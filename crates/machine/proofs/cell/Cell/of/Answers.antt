@@ -1,0 +1,32 @@
+use Rattle.std.proofs.Common.{◌≡◌, ℕ, length, get_or, Some, None, Option, ap, ◌∙◌, sym, arith}
+use Rattle.arrayvec.specs.ArrayVec.{array_vec_len}
+use Rattle.words.specs.declared.graph.Node.{Node}
+use Rattle.words.specs.Designs.{feed_at, absent}
+use Rattle.bench.proofs.Soundness.{slice_at}
+use Rattle.machine.proofs.Taps.{taps_none, taps_more, taps_same}
+use Rattle.machine.proofs.cell.Cell.of.Goals as goal
+use Rattle.machine.proofs.cell.Cell.of.Goals.{in-Some, in_default}
+
+pub loop-source-init : goal.loop-source-init
+loop-source-init c =
+    let row : ℕ → Option ℕ = feed_at c.args.design.now.graph c.args.node in
+    record { few = omega (arith, ap length c.new-taps.ensures); so_far = c.new-taps.ensures ∙ taps_none row }
+
+pub loop-source-preserved : goal.loop-source-preserved
+loop-source-preserved c =
+    let row : ℕ → Option ℕ = feed_at c.args.design.now.graph c.args.node in
+    let k : ℕ = c.loop-source.source in
+    let heard : get_or (get_or c.nodes.result.now c.args.node absent).feeds k None ≡ row k =
+    ap (λ (node : Node). get_or node.feeds k None) (slice_at c.args.design.now.graph c.nodes.result.now c.args.node c.nodes.ensures c.requires) in
+    elim c.match-feed.branch [
+      | in-Some w ↦
+          record {
+            few = omega (arith, ap array_vec_len w.taps-is, w.push.ensures.len, c.loop-source.invariant.few);
+            so_far = ap (λ v. v.items) w.taps-is ∙ w.push.ensures.items ∙ taps_more row k _ c.loop-source.invariant.so_far w.from-delay.result (sym heard ∙ w.in-Some.is ∙ ap Some (sym w.from-delay.ensures));
+          }
+      | in_default w ↦
+          record {
+            few = omega (arith, ap array_vec_len w.taps-is, c.loop-source.invariant.few);
+            so_far = ap (λ v. v.items) w.taps-is ∙ taps_same row k _ c.loop-source.invariant.so_far (sym heard ∙ w.in_default.is);
+          }
+    ]
