@@ -25,6 +25,7 @@ use Rattle.cells.specs.declared.weights.Weight.{Weight}
 use Rattle.cells.specs.Sums.{whole_meaning, whole_blank}
 use Rattle.machine.specs.Refusals.{simulate_fault, too_long}
 use Rattle.machine.specs.Values.{past, Solves, output}
+use Rattle.machine.specs.Arrays.{array_of, Runs, put_out}
 use Rattle.machine.specs.Machines.{registers_needed}
 use Rattle.channels.specs.declared.events.Event.{Event}
 use Rattle.channels.specs.declared.events.Event.TheVariants.{Start, Step}
@@ -84,7 +85,10 @@ pub record Worked : Type 0 where
   pub e_program : program design_e settled_e ≡ program_of_e
   -- which are listed as eleven lines
   pub e_listed : listed (program design_e settled_e) ≡ text_of_e
-  -- a machine that has just loaded this program and is started from rests of 0, with enough registers, answers steps on 1, 5, 1, 0, 1, 0, 0 by 0, 3,
+  -- its array, from rests of 0, on 1, 5, 1, 0, 1, 0, 0 puts out 0, 3, 15, 9, 30, 21, 60
+  pub e_array : (table : List (Weight ℤ)) → CellsOfE table → (rest x : ℕ → ℤ) (u : ℕ → ℕ → ℤ) → Runs (array_of design_e settled_e) (whole_meaning table) rest x u → rest 0 ≡ pos 0 →
+      ((τ : ℕ) → τ < 7 → x τ ≡ slice_index_or inputs_of_e τ (pos 0)) → (τ : ℕ) → τ < 7 → put_out (array_of design_e settled_e) rest u τ ≡ slice_index_or steps_of_e τ (pos 0)
+  -- and a machine that has just loaded this program and is started from rests of 0, with enough registers, answers steps on 1, 5, 1, 0, 1, 0, 0 by 0, 3,
   -- 15, 9, 30, 21, 60
   pub e_steps : (table : List (Weight ℤ)) → CellsOfE table → (t : ProgramTable) → ProgramInRange t → encoded_program t ≡ program_of_e →
       (first last : State ℤ) → first.cycle ≡ 0 → registers_needed t ≤ length first.row → (start : Event ℤ) → StartsFrom (pos 0 ∷ pos 0 ∷ pos 0 ∷ []) start →

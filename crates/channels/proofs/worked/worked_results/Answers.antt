@@ -3,6 +3,7 @@ use Rattle.channels.proofs.InRange.{e_in_range, loop_in_range, delayed_in_range,
 use Rattle.channels.proofs.Loops.{loop_refused}
 use Rattle.channels.proofs.Sources.{e_first, e_second, e_outputs}
 use Rattle.channels.proofs.Stepped.{e_steps}
+use Rattle.channels.proofs.Steps.{e_puts_out}
 use Rattle.channels.proofs.worked.worked_results.Goals as goal
 
 pub returns : goal.returns
@@ -21,6 +22,7 @@ returns c =
       e_systolic = computed.e_systolic;
       e_program = computed.e_program;
       e_listed = computed.e_listed;
+      e_array = e_puts_out;
       e_steps = e_steps;
       e_shifts = computed.e_shifts;
       e_slow = computed.e_slow;
