@@ -8,40 +8,38 @@ use Rattle.std.proofs.lemmas.List.Concat.{flat_map-append}
 use Rattle.std.proofs.lemmas.List.Elements.{All-map, All-push, Contains-push}
 use Rattle.std.proofs.lemmas.List.Quantifiers.{all_pairs_push}
 use Rattle.words.specs.declared.graph.Graph.{Graph}
-use Rattle.words.specs.Designs.{InRange, input, sources}
-use Rattle.words.specs.Programs.{array_word, array_output_word, array_end_word}
+use Rattle.words.specs.declared.program_table.Tap.{Tap}
+use Rattle.words.specs.declared.program_table.Cell.{Cell}
+use Rattle.words.specs.Designs.{InRange, node_at, input, sources}
+use Rattle.words.specs.ProgramEncoding.{tap_words, cell_words}
+use Rattle.words.specs.Programs.{array_word, cell_word, tap_word, array_output_word, array_end_word}
 use Rattle.bench.specs.declared.retiming.Retiming.{Retiming}
-use Rattle.bench.specs.Cells.{Tap, Cell, Taps, words_of_tap, words_of_cell, word_of_line, ListsCells}
+use Rattle.bench.specs.Cells.{Taps, word_of_line, ListsCells}
 use Rattle.bench.specs.Orders.{Fires}
 use Rattle.bench.specs.Programs.{in_turn, line_at, tap_if, taps, cell, cells, program_body, program}
-use Rattle.bench.specs.Retimings.{current_delay, output_delay, order}
+use Rattle.bench.specs.Retimings.{lag_at, current_delay, output_delay, order}
+use Rattle.bench.specs.Tables.{tap_at, taps_to, cell_at}
 use Rattle.bench.proofs.Emitting.{node_line, input_line}
 use Rattle.bench.proofs.Settled.{fed}
 use Rattle.bench.proofs.Soundness.{feed_inside}
 
-tap_at : ℕ → Option ℕ → List Tap
-tap_at j None = []
-tap_at j (Some d) = record { source = j; delay = d } ∷ []
-
 module _ (g : Graph) (p : Retiming) (i : ℕ) where
   -- node i's taps from sources below k
-  below : ℕ → List Tap
-  below zero = []
-  below (suc k) = below k ++ tap_at k (current_delay g p i k)
+  abbrev below : ℕ → List Tap
+  below k = taps_to (current_delay g p i) k
 
-  word : (j : ℕ) (o : Option ℕ) → map words_of_tap (tap_at j o) ≡ tap_if j o
-  unfolding tap_at
+  word : (j : ℕ) (o : Option ℕ) → tap_words (tap_at j o) ≡ tap_if j o
   word j None = refl
   word j (Some d) = refl
 
-  words : (k : ℕ) → map words_of_tap (below k) ≡ taps g p i k
-  unfolding in_turn below
+  words : (k : ℕ) → tap_words (below k) ≡ taps g p i k
+  unfolding in_turn taps_to
   words zero = refl
-  words (suc k) = map-append words_of_tap (below k) (tap_at k (current_delay g p i k)) ∙ ap₂ (λ xs ys. xs ++ ys) (words k) (word k (current_delay g p i k))
+  words (suc k) = map-append (λ (t : Tap). tap_word t.source t.delay) (below k) (tap_at k (current_delay g p i k)) ∙ ap₂ (λ xs ys. xs ++ ys) (words k) (word k (current_delay g p i k))
 
   -- a source more
   more : (k : ℕ) (P : List Tap → Type 0) → (current_delay g p i k ≡ None → P (below k)) → ((d : ℕ) → current_delay g p i k ≡ Some d → P (below k ++ record { source = k; delay = d } ∷ [])) → P (below (suc k))
-  unfolding below tap_at
+  unfolding taps_to
   more k P none some = by (current_delay g p i k) refl
     where
       by : (o : Option ℕ) → current_delay g p i k ≡ o → P (below k ++ tap_at k (current_delay g p i k))
@@ -49,19 +47,19 @@ module _ (g : Graph) (p : Retiming) (i : ℕ) where
       by (Some d) e = subst (λ o. P (below k ++ tap_at k o)) (sym e) (some d e)
 
   low : (k : ℕ) → All (λ t. t.source < k) (below k)
-  unfolding below
+  unfolding taps_to
   low zero = λ m d l. absurd (omega arith)
   low (suc k) =
       let old : All (λ t. t.source < suc k) (below k) = λ m d l. omega (arith, low k m d l) in
       more k (λ ts. All (λ t. t.source < suc k) ts) (λ e. old) (λ d e. All-push (λ t. t.source < suc k) (below k) _ old (omega arith))
 
   only : (k : ℕ) → All (λ t. current_delay g p i t.source ≡ Some t.delay) (below k)
-  unfolding below
+  unfolding taps_to
   only zero = λ m d l. absurd (omega arith)
   only (suc k) = more k (λ ts. All (λ t. current_delay g p i t.source ≡ Some t.delay) ts) (λ e. only k) (λ d e. All-push (λ t. current_delay g p i t.source ≡ Some t.delay) (below k) _ (only k) e)
 
   ascending : (k : ℕ) → AllPairs (λ s t. s.source < t.source) (below k)
-  unfolding below
+  unfolding taps_to
   ascending zero = λ m n d l h. absurd (omega arith)
   ascending (suc k) = more k (λ ts. AllPairs (λ s t. s.source < t.source) ts) (λ e. ascending k) (λ d e. all_pairs_push (λ s t. s.source < t.source) (below k) _ (ascending k) (low k))
 
@@ -69,7 +67,7 @@ module _ (g : Graph) (p : Retiming) (i : ℕ) where
   kept ts us t c = (c.0, omega (arith, c.1, length-append ts us), get_or_append_left ts us t c.0 c.1 ∙ c.2)
 
   each : (k j d : ℕ) → j < k → current_delay g p i j ≡ Some d → Contains (below k) (record { source = j; delay = d })
-  unfolding below tap_at
+  unfolding taps_to
   each zero j d l e = absurd (omega arith)
   each (suc k) j d l e =
       ⊎_elim
@@ -117,27 +115,23 @@ module _ (g : Graph) (p : Retiming) where
       ap (in_turn (line_at g p)) (add-one g.count) ∙ ap₂ (λ xs ys. xs ++ ys) (node_lines g.count (omega arith)) (sym (input_line g p))
       ∙ sym (map-append (word_of_line g p) (range_with_len 0 g.count) (input ∷ []))
 
-  cell_of : ℕ → Cell
-  cell_of i = record { node = i; taps = below g p i sources }
-
-  nodes_of : (xs : List ℕ) → map (λ c. c.node) (map cell_of xs) ≡ xs
-  unfolding cell_of
+  nodes_of : (xs : List ℕ) → map (λ (c : Cell). c.node) (map (cell_at g p) xs) ≡ xs
   nodes_of [] = refl
   nodes_of (x ∷ xs) = ap (λ ys. x ∷ ys) (nodes_of xs)
 
-  words_of : (xs : List ℕ) → flat_map (cell g p) xs ≡ flat_map (words_of_cell g p) (map cell_of xs)
-  unfolding cell_of
+  words_of : (xs : List ℕ) → flat_map (cell g p) xs ≡ cell_words (map (cell_at g p) xs)
+  unfolding cell_words
   words_of [] = refl
-  words_of (x ∷ xs) = ap₂ (λ ts ys. (words_of_cell g p (record { node = x; taps = [] }) ++ ts) ++ ys) (sym (words g p x sources)) (words_of xs)
+  words_of (x ∷ xs) = ap₂ (λ ts ys. (cell_word x (node_at g x).operation (lag_at p x) ∷ [] ++ ts) ++ ys) (sym (words g p x sources)) (words_of xs)
 
   -- the cells in turn are those of the order's nodes
   pub lists_cells : InRange g → Fires g p (order g p) → ListsCells g p (program g p)
-  unfolding program cell_of
+  unfolding program
   lists_cells r fires =
       let o : List ℕ = order g p in
-      let made : List Cell = map cell_of o in
+      let made : List Cell = map (cell_at g p) o in
       let out : ℕ = array_output_word g.output.node (output_delay g p) in
-      let all : cells g p g.count ≡ flat_map (words_of_cell g p) made =
+      let all : cells g p g.count ≡ cell_words made =
       turns (cell g p) o g.count (omega (arith, fires.whole)) ∙ ap (flat_map (cell g p)) (take_all g.count o (omega (arith, fires.whole))) ∙ words_of o in
       record {
         cells = made;
@@ -145,7 +139,8 @@ module _ (g : Graph) (p : Retiming) where
             record {
               ranked = nodes_of o;
               once = subst (Fires g p) (sym (nodes_of o)) fires;
-              tapped = All-map (λ c. Taps g p c.node c.taps) cell_of o (λ k d l. tapped g p (get_or o k d) r);
+              labelled = All-map (λ (c : Cell). (c.operation ≡ (node_at g c.node).operation) × (c.lag ≡ lag_at p c.node)) (cell_at g p) o (λ k d l. (refl, refl));
+              tapped = All-map (λ (c : Cell). Taps g p c.node c.taps.items) (cell_at g p) o (λ k d l. tapped g p (get_or o k d) r);
             };
         listed =
             flat (array_word g.count p.factor) (in_turn (line_at g p) (g.count + 1)) (cells g p g.count) out (array_end_word (length (program_body g p) + 1))

@@ -8,7 +8,8 @@ use Rattle.words.specs.Designs.{feed_at, max_nodes}
 use Rattle.bench.specs.declared.retiming.Retiming.{Retiming}
 use Rattle.bench.specs.Firing.{place_in}
 use Rattle.bench.specs.Orders.{Fires, Ranked}
-use Rattle.bench.specs.Retimings.{Sound, at_rest, order, waits, lag_at, delay_of, current_delay, is_zero, max_lag}
+use Rattle.bench.specs.Retimings.{Sound, at_rest, order, waits, lag_at, delay_of, current_delay, is_zero}
+use Rattle.words.specs.ProgramTables.{max_lag}
 use Rattle.bench.proofs.AtRest.{rest_delay}
 use Rattle.bench.proofs.Fires.{fired_fine, fired_long}
 use Rattle.bench.proofs.Lists.{distinct_all, has_at, place_at, place_below}

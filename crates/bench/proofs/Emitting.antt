@@ -8,7 +8,8 @@ use Rattle.words.specs.Designs.{InRange, feed_at, input}
 use Rattle.words.specs.Programs.{line_word}
 use Rattle.bench.specs.declared.retiming.Retiming.{Retiming}
 use Rattle.bench.specs.Programs.{in_turn, line_at, tap_if, taps, cell, cells, output_reach, reach, line_length, Reaches}
-use Rattle.bench.specs.Retimings.{Sound, order, current_delay, delay_of, output_delay, max_delay}
+use Rattle.bench.specs.Retimings.{Sound, order, current_delay, delay_of, output_delay}
+use Rattle.words.specs.ProgramTables.{max_delay}
 use Rattle.bench.proofs.Settled.{fed}
 use Rattle.bench.proofs.Soundness.{feed_inside}
 use Rattle.bench.proofs.Writing.{appended}

@@ -13,7 +13,8 @@ use Rattle.bench.specs.declared.retiming.NodeRecord.{NodeRecord}
 use Rattle.bench.specs.declared.retiming.Retiming.{Retiming}
 use Rattle.std.specs.Option.{option_or}
 use Rattle.bench.specs.First.{first}
-use Rattle.bench.specs.Retimings.{Sound, unlagged, lag_at, source_lag, ahead, max_lag, max_delay, max_factor}
+use Rattle.bench.specs.Retimings.{Sound, unlagged, lag_at, source_lag, ahead}
+use Rattle.words.specs.ProgramTables.{max_lag, max_delay, max_factor}
 use Rattle.bench.specs.Moves.{moved, moved_lag, new_record, natural, is_lag, lags_fault, delays_fault, node_fault, feed_fault, output_fault, move_fault, made_fault, slow_fault, is_shift, shifts_fault, lag_fault}
 use Rattle.bench.specs.Refusals.{lag_out, too_slow, wrong_factor, wrong_row, wrong_shift}
 use Rattle.bench.proofs.Searches.{or_none, none_or, some_or, first_none, first_found, first_all, first_extend}

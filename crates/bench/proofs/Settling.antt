@@ -10,7 +10,8 @@ use Rattle.bench.specs.declared.retiming.Retiming.{Retiming}
 use Rattle.bench.specs.Firing.{place_in}
 use Rattle.bench.specs.Moves.{is_shift, ranks}
 use Rattle.bench.specs.Orders.{Fires}
-use Rattle.bench.specs.Retimings.{order, max_lag}
+use Rattle.bench.specs.Retimings.{order}
+use Rattle.words.specs.ProgramTables.{max_lag}
 use Rattle.bench.proofs.Lists.{place_below}
 
 module _ (g : Graph) (few : g.count ≤ max_nodes) (p : Retiming) (l : List ℕ) (e : l ≡ order g p) (fires : Fires g p l) where

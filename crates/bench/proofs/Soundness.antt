@@ -11,7 +11,8 @@ use Rattle.words.specs.declared.graph.Graph.{Graph}
 use Rattle.words.specs.Designs.{InRange, node_at, feed_at, absent, sources, byte, max_nodes}
 use Rattle.words.proofs.Ranges.{feed_past_nodes, feed_past_sources}
 use Rattle.bench.specs.declared.retiming.Retiming.{Retiming}
-use Rattle.bench.specs.Retimings.{Sound, ahead, source_lag, lag_at, max_lag, max_delay}
+use Rattle.bench.specs.Retimings.{Sound, ahead, source_lag, lag_at}
+use Rattle.words.specs.ProgramTables.{max_lag, max_delay}
 
 sound_prop : (g : Graph) (p : Retiming) (x y : Sound g p) → x ≡ y
 sound_prop g p x y =

@@ -9,7 +9,8 @@ use Rattle.bench.specs.declared.retiming.NodeRecord.{NodeRecord}
 use Rattle.bench.specs.declared.retiming.Retiming.{Retiming}
 use Rattle.std.specs.Option.{option_or}
 use Rattle.bench.specs.First.{first}
-use Rattle.bench.specs.Retimings.{unlagged, max_factor, max_lag, max_delay, source_lag, ahead, output_delay, order}
+use Rattle.bench.specs.Retimings.{unlagged, source_lag, ahead, output_delay, order}
+use Rattle.words.specs.ProgramTables.{max_factor, max_lag, max_delay}
 use Rattle.bench.specs.Firing.{place_in}
 use Rattle.bench.specs.Refusals.{wrong_row, wrong_shift, lag_out, delay_out, wrong_factor, too_slow}
 

@@ -3,19 +3,10 @@ use Rattle.std.specs.Prelude.{◌≡◌, ℕ, ◌+◌, ◌-◌, ◌*◌, ◌<◌
 use Rattle.std.specs.Option.{option_map}
 use Rattle.words.specs.declared.graph.Graph.{Graph}
 use Rattle.words.specs.Designs.{feed_at, input, max_nodes}
+use Rattle.words.specs.ProgramTables.{max_factor, max_lag, max_delay}
 use Rattle.bench.specs.declared.retiming.NodeRecord.{NodeRecord}
 use Rattle.bench.specs.declared.retiming.Retiming.{Retiming}
 use Rattle.bench.specs.Firing.{firing}
-
--- the limits of K, of lags and of current delays
-abbrev pub max_factor : ℕ
-max_factor = 64
-
-abbrev pub max_lag : ℕ
-max_lag = 4095
-
-abbrev pub max_delay : ℕ
-max_delay = 4095
 
 abbrev pub unlagged : NodeRecord
 unlagged = record { lag = 0 }

@@ -1,14 +1,15 @@
 //! Question 11: is each delay to come in range?
 
 ghost use Rattle.std.specs.Prelude.{◌≡◌, ◌<◌, ◌≤◌, Some};
-ghost use Rattle.bench.specs.Retimings.{max_factor};
+ghost use Rattle.words.specs.ProgramTables.{max_factor};
 ghost use Rattle.bench.specs.Moves.{feed_fault, node_fault, delays_fault};
 ghost use Rattle.bench.specs.Refusals.{unless};
 
-use crate::retiming::{MAX_DELAY, Retiming};
+use crate::retiming::Retiming;
 use words::design::Design;
 use words::faults::{BenchQuestion, Fault, Question};
 use words::graph::{INPUT, Node};
+use words::program_table::MAX_DELAY;
 
 /// What a rescaling makes of a retiming, before its delays are asked about.
 #[derive(Clone, Copy)]

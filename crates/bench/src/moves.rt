@@ -2,7 +2,7 @@
 
 ghost use Rattle.std.specs.Prelude.{◌≡◌, ℕ, ◌<◌, ◌≤◌, true, [], map, length, take, pos, not, ◌*◌, ◌+ℤ◌, None, Some, Ok, slice_index_or, IfOk, MatchResult};
 ghost use Rattle.bench.specs.Firing.{has, place_in};
-ghost use Rattle.bench.specs.Retimings.{max_factor};
+ghost use Rattle.words.specs.ProgramTables.{max_factor};
 ghost use Rattle.bench.specs.Moves.{lag_fault_at, natural, new_lag, new_record, moved, delays_fault, lags_fault, made_fault, slow_fault, lag_fault, is_shift, shifts_fault, ranks, settle_fault};
 ghost use Rattle.std.specs.List.{range_with_len, position};
 ghost use Rattle.bench.specs.Refusals.{unless, unless_kept};
@@ -11,10 +11,11 @@ ghost use Rattle.bench.specs.Verdicts.{C1Holds, C2Holds};
 use crate::bench::Bench;
 use crate::delays::Moved;
 use crate::order::Order;
-use crate::retiming::{MAX_FACTOR, MAX_LAG, NodeRecord, Retiming};
+use crate::retiming::{NodeRecord, Retiming};
 use std::array;
 use words::faults::{BenchQuestion, Fault, Question};
 use words::graph::MAX_NODES;
+use words::program_table::{MAX_FACTOR, MAX_LAG};
 
 /// A factor for K and every lag, and then a row of shifts for the lags.
 #[derive(Clone, Copy)]

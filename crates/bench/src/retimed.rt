@@ -2,7 +2,8 @@
 
 ghost use Rattle.std.specs.Prelude.{◌≡◌, ◌*◌, ◌^◌, ◌<◌, ◌≤◌, Some};
 ghost use Rattle.words.specs.Designs.{feed_at};
-ghost use Rattle.bench.specs.Retimings.{Sound, waits, at_rest, ahead, delay_of, current_delay, lag_at, source_lag, max_factor};
+ghost use Rattle.bench.specs.Retimings.{Sound, waits, at_rest, ahead, delay_of, current_delay, lag_at, source_lag};
+ghost use Rattle.words.specs.ProgramTables.{max_factor};
 
 use crate::retiming::{NodeRecord, Retiming};
 use words::design::Design;

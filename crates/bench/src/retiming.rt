@@ -2,15 +2,6 @@
 
 use words::graph::MAX_NODES;
 
-/// The most that K may be, and a factor of it.
-pub const MAX_FACTOR: u32 = 64;
-
-/// The longest lag.
-pub const MAX_LAG: u32 = 4095;
-
-/// The longest current delay.
-pub const MAX_DELAY: u32 = 4095;
-
 /// What the bench keeps of one node: by how many cycles it lags.
 #[derive(Clone, Copy, PartialEq, Eq, Debug)]
 pub struct NodeRecord {

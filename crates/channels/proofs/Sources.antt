@@ -7,7 +7,8 @@ use Rattle.cells.specs.declared.weights.Weight.{Weight}
 use Rattle.cells.specs.Meaning.{Operand, applied}
 use Rattle.cells.specs.Sums.{whole_meaning, whole_blank, exact}
 use Rattle.cells.proofs.Wrapping.{wraps_once}
-use Rattle.machine.specs.Values.{past, taps_to, operands, Solves}
+use Rattle.machine.specs.Values.{past, operands, Solves}
+use Rattle.bench.specs.Tables.{taps_to}
 use Rattle.machine.proofs.Histories.{past_at}
 use Rattle.channels.specs.Examples.{design_e}
 use Rattle.channels.specs.Worked.{CellsOfE, Outputs}

@@ -11,7 +11,8 @@ use Rattle.cells.specs.declared.weights.Weight.{Weight}
 use Rattle.cells.specs.Meaning.{applied}
 use Rattle.cells.specs.Sums.{whole_meaning}
 use Rattle.words.specs.declared.program_table.Tap.{Tap}
-use Rattle.machine.specs.Values.{past, heard, taps_to, operand}
+use Rattle.machine.specs.Values.{past, heard, operand}
+use Rattle.bench.specs.Tables.{taps_to}
 use Rattle.machine.specs.Arrays.{array_of, Runs, put_out}
 use Rattle.machine.proofs.Histories.{past_at}
 use Rattle.channels.specs.Examples.{design_e}

@@ -24,7 +24,8 @@ use Rattle.cells.specs.Meaning.{Meaning}
 use Rattle.machine.specs.Arrays.{array_of, array_in, ArrayDetermined, Runs, put_out}
 use Rattle.machine.specs.Buffers.{rest_in}
 use Rattle.machine.specs.ProgramArrays.{CellOf, ProgramOf}
-use Rattle.machine.specs.Values.{taps_to, Solves, output}
+use Rattle.machine.specs.Values.{Solves, output}
+use Rattle.bench.specs.Tables.{taps_to}
 use Rattle.machine.proofs.Alike.{runs_alike, put_out_alike, alike_back}
 use Rattle.machine.proofs.Channels.{channels}
 use Rattle.machine.proofs.Cycles.{determined as array_determined, in_firing_order}

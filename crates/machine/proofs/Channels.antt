@@ -13,7 +13,8 @@ use Rattle.bench.specs.Orders.{Ranked}
 use Rattle.bench.specs.Retimings.{Sound, lag_at, source_lag, delay_of, ahead, current_delay, latency}
 use Rattle.cells.specs.Meaning.{Meaning, applied}
 use Rattle.words.specs.declared.program_table.Tap.{Tap}
-use Rattle.machine.specs.Values.{past, heard, tap_if, taps_to, operand, Solves, output}
+use Rattle.machine.specs.Values.{past, heard, operand, Solves, output}
+use Rattle.bench.specs.Tables.{tap_at, taps_to}
 use Rattle.machine.specs.Arrays.{array_of, Runs, put_out, ChannelsKeepTime}
 use Rattle.machine.proofs.Histories.{past_at, past_rest, given_input, given_node, source_node}
 
@@ -42,11 +43,11 @@ taps_moved : {X : Type 0} (f g : Tap → X) (row : ℕ → Option ℕ) (move : �
 unfolding taps_to
 taps_moved f g row move zero h = refl
 taps_moved f g row move (suc k) h =
-    map-append f (taps_to (λ j. option_map (move j) (row j)) k) (tap_if k (option_map (move k) (row k)))
+    map-append f (taps_to (λ j. option_map (move j) (row j)) k) (tap_at k (option_map (move k) (row k)))
     ∙ (λ i. taps_moved f g row move k (λ j a l e. h j a (omega arith) e) i ++ last (row k) refl i)
-    ∙ sym (map-append g (taps_to row k) (tap_if k (row k)))
+    ∙ sym (map-append g (taps_to row k) (tap_at k (row k)))
   where
-    last : (o : Option ℕ) → row k ≡ o → map f (tap_if k (option_map (move k) o)) ≡ map g (tap_if k o)
+    last : (o : Option ℕ) → row k ≡ o → map f (tap_at k (option_map (move k) o)) ≡ map g (tap_at k o)
     last None e = refl
     last (Some a) e = ap (λ y. y ∷ []) (h k a (omega arith) e)
 

@@ -11,7 +11,8 @@ use Rattle.bench.specs.Firing.{place_in}
 use Rattle.bench.specs.Orders.{Ranked}
 use Rattle.bench.specs.Retimings.{delay_of, current_delay}
 use Rattle.cells.specs.Meaning.{Meaning, applied}
-use Rattle.machine.specs.Values.{heard, taps_to, operand}
+use Rattle.machine.specs.Values.{heard, operand}
+use Rattle.bench.specs.Tables.{taps_to}
 use Rattle.machine.specs.Arrays.{Array, array_of, Earlier, Ordered, Runs, ArrayDetermined}
 use Rattle.machine.proofs.Histories.{taps_all, map_alike, heard_alike, source_node}
 

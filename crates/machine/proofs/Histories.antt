@@ -11,15 +11,16 @@ use Rattle.cells.specs.Meaning.{Meaning, applied}
 use Rattle.bench.specs.Firing.{place_in}
 use Rattle.bench.specs.Orders.{Ranked}
 use Rattle.words.specs.declared.program_table.Tap.{Tap}
-use Rattle.machine.specs.Values.{past, given, heard, tap_if, taps_to, taps_of, operand, operands, Solves, SolvesBefore, Determined}
+use Rattle.machine.specs.Values.{past, given, heard, taps_of, operand, operands, Solves, SolvesBefore, Determined}
+use Rattle.bench.specs.Tables.{tap_at, taps_to}
 
 -- all taps of a row, by their feeds
 pub taps_all : (P : Tap → Type 0) (row : ℕ → Option ℕ) (k : ℕ) → ((j a : ℕ) → j < k → row j ≡ Some a → P (record { source = j; delay = a })) → AllByRecursion P (taps_to row k)
 unfolding taps_to
 taps_all P row zero h = tt
-taps_all P row (suc k) h = All-append P (taps_to row k) (tap_if k (row k)) (taps_all P row k (λ j a l e. h j a (omega arith) e)) (last (row k) refl)
+taps_all P row (suc k) h = All-append P (taps_to row k) (tap_at k (row k)) (taps_all P row k (λ j a l e. h j a (omega arith) e)) (last (row k) refl)
   where
-    last : (o : Option ℕ) → row k ≡ o → AllByRecursion P (tap_if k o)
+    last : (o : Option ℕ) → row k ≡ o → AllByRecursion P (tap_at k o)
     last None e = tt
     last (Some a) e = (h k a (omega arith) e, tt)
 

@@ -1,5 +1,5 @@
 -- The array of a bench's program is that of its design, slowed and lagged.
-use Rattle.std.proofs.Common.{◌≡◌, ℕ, zero, suc, ◌+◌, ◌<◌, ◌≤◌, true, eqb, List, [], ◌∷◌, ◌++◌, map, length, get_or, Some, None, Option, sym, refl, ap, ap₂, ◌∙◌, subst, ⊎_elim, arith}
+use Rattle.std.proofs.Common.{◌≡◌, ℕ, ◌+◌, ◌<◌, ◌≤◌, true, eqb, List, [], ◌∷◌, map, length, get_or, sym, refl, ap, ◌∙◌, subst, ⊎_elim, arith}
 use Rattle.std.specs.List.{All}
 use Rattle.std.proofs.lemmas.List.Elements.{All-from_recursion, All-map}
 use Rattle.std.proofs.lemmas.List.{get_or_default, get_or-map, length-map}
@@ -16,13 +16,12 @@ use Rattle.bench.specs.Firing.{has, place_in}
 use Rattle.bench.specs.Orders.{Ranked}
 use Rattle.bench.specs.Programs.{line_length}
 use Rattle.bench.specs.Retimings.{current_delay, lag_at, order}
-use Rattle.bench.specs.Tables.{taps_to as program_taps, tap_at, cell_at, line_lengths, program_of}
+use Rattle.bench.specs.Tables.{taps_to, cell_at, line_lengths, program_of}
 use Rattle.bench.proofs.Emitting.{reaches}
 use Rattle.bench.proofs.Lists.{place_at, place_below}
 use Rattle.machine.specs.Arrays.{array_of, array_in, cell_of, rank_in, Ordered}
 use Rattle.machine.specs.ProgramArrays.{Alike, CellOf, ProgramOf}
 use Rattle.machine.specs.Steps.{Reached, line_long}
-use Rattle.machine.specs.Values.{tap_if, taps_to}
 use Rattle.machine.proofs.Alike.{alike_back, ordered_alike, reached_alike}
 use Rattle.machine.proofs.Cycles.{tap_source, in_firing_order}
 use Rattle.machine.proofs.Histories.{taps_all, node_source, source_node}
@@ -68,16 +67,6 @@ module _ (g : Graph) (p : Retiming) (fires : Ranked g.count (current_delay g p) 
     pub program_reached : Reached (array_in t) t.lines.items
     program_reached = reached_alike (array_of g p) (array_in t) (alike_back (array_in t) (array_of g p) program_alike) t.lines.items reached_of
 
--- the taps of a row of delays are the same in a program's table
-same_taps : (row : ℕ → Option ℕ) (k : ℕ) → program_taps row k ≡ taps_to row k
-unfolding program_taps taps_to
-same_taps row zero = refl
-same_taps row (suc k) = ap₂ ◌++◌ (same_taps row k) (one (row k))
-  where
-    one : (o : Option ℕ) → tap_at k o ≡ tap_if k o
-    one None = refl
-    one (Some d) = refl
-
 -- a bench's program is one of its design, slowed and lagged
 module _ (g : Graph) (p : Retiming) (fires : Ranked g.count (current_delay g p) (order g p)) where
   cell_nodes : (nodes : List ℕ) → nodes_of (map (cell_at g p) nodes) ≡ nodes
@@ -109,7 +98,7 @@ module _ (g : Graph) (p : Retiming) (fires : Ranked g.count (current_delay g p) 
         lines = line_is;
         order = cell_nodes (order g p);
         cells = All-map (CellOf g p) (cell_at g p) (order g p)
-            (λ k d l. record { node = listed k d l; operation = refl; lag = refl; taps = same_taps (current_delay g p (get_or (order g p) k d)) sources });
+            (λ k d l. record { node = listed k d l; operation = refl; lag = refl; taps = refl });
         output = refl;
         output_delay = refl;
       }

@@ -11,7 +11,8 @@ use Rattle.words.specs.declared.program_table.Cell.{Cell}
 use Rattle.words.specs.declared.program_table.ProgramTable.{ProgramTable}
 use Rattle.words.specs.ProgramDrafts.{nodes_of, no_cell}
 use Rattle.bench.specs.Firing.{place_in}
-use Rattle.machine.specs.Values.{past, heard, taps_to, operand, Solves, output}
+use Rattle.machine.specs.Values.{past, heard, operand, Solves, output}
+use Rattle.bench.specs.Tables.{taps_to}
 
 -- An array of n cells, one for each node: its operation, the cycle at which it begins to compute, and its taps. The output's node, and how
 -- long before it is read.

@@ -11,7 +11,7 @@ use Rattle.bench.specs.Programs.{line_length}
 use Rattle.bench.specs.Retimings.{lag_at, current_delay, output_delay, order}
 use Rattle.machine.specs.Arrays.{Array}
 use Rattle.machine.specs.Steps.{line_long}
-use Rattle.machine.specs.Values.{taps_to}
+use Rattle.bench.specs.Tables.{taps_to}
 
 -- Two arrays are alike if they have as many cells, cell by cell the same operation, lag and taps, and the same output.
 pub record Alike (a b : Array) : Type 0 where

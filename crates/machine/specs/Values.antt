@@ -1,7 +1,8 @@
 -- The values of a design: a relation over whole histories.
-use Rattle.std.specs.Prelude.{◌≡◌, ℕ, zero, suc, ◌-◌, ◌<◌, cond, List, [], ◌∷◌, ◌++◌, map, Some, None, Option, ◌==◌, nat_le}
+use Rattle.std.specs.Prelude.{◌≡◌, ℕ, ◌-◌, ◌<◌, cond, List, map, ◌==◌, nat_le}
 use Rattle.words.specs.declared.graph.Graph.{Graph}
 use Rattle.words.specs.Designs.{node_at, feed_at, input, sources}
+use Rattle.bench.specs.Tables.{taps_to}
 use Rattle.cells.specs.Meaning.{Meaning, Operand, applied}
 use Rattle.words.specs.declared.program_table.Tap.{Tap}
 
@@ -16,15 +17,6 @@ given v x j = cond (j == input) x (v j)
 -- what is heard of source j, by a tap of delay d, at time t
 abbrev pub heard : {E : Type 0} → (ℕ → E) → (ℕ → ℕ → E) → (ℕ → E) → ℕ → ℕ → ℕ → E
 heard rest v x t j d = past (given v x j) (rest j) t d
-
-abbrev pub tap_if : ℕ → Option ℕ → List Tap
-tap_if j None = []
-tap_if j (Some d) = record { source = j; delay = d } ∷ []
-
--- the taps of the first k sources of a row of feeds, in ascending order
-unfoldable pub taps_to : (ℕ → Option ℕ) → ℕ → List Tap
-taps_to row zero = []
-taps_to row (suc k) = taps_to row k ++ tap_if k (row k)
 
 -- node i's taps: by source, the input last
 abbrev pub taps_of : Graph → ℕ → List Tap

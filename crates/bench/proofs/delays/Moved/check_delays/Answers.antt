@@ -8,7 +8,8 @@ use Rattle.words.specs.Designs.{absent, node_at, input}
 use Rattle.words.proofs.Ranges.{ranges}
 use Rattle.bench.specs.declared.retiming.Retiming.{Retiming}
 use Rattle.bench.specs.First.{first}
-use Rattle.bench.specs.Retimings.{output_delay, max_delay}
+use Rattle.bench.specs.Retimings.{output_delay}
+use Rattle.words.specs.ProgramTables.{max_delay}
 use Rattle.bench.specs.Moves.{delays_fault, node_fault, output_fault}
 use Rattle.bench.specs.Refusals.{unless, delay_out}
 use Rattle.bench.proofs.Outcomes.{unless_err, unless_none, refused}

@@ -1,7 +1,7 @@
 use Rattle.std.proofs.Common.{◌≡◌, ◌≤◌}
 use Rattle.arrayvec.specs.ArrayVec.{array_vec_len}
 use Rattle.words.specs.Designs.{feed_at}
-use Rattle.machine.specs.Values.{taps_to}
+use Rattle.bench.specs.Tables.{taps_to}
 use Rattle.machine.proofs.cell.Cell.of.Given as goal
 
 abbrev pub invariant-loop-source : goal.invariant-loop-source
