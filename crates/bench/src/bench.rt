@@ -21,11 +21,11 @@ impl Bench {
     /// The design under its retiming.
     pub(crate) fn retimed(&self) -> Retimed<'_>
         ensures design { result.design.now ≡ self.now.design }
-        ensures retiming { result.retiming ≡ self.now.retiming }
+        ensures retiming { result.retiming.now ≡ self.now.retiming }
     {
         Retimed {
             design: &self.design,
-            retiming: self.retiming,
+            retiming: &self.retiming,
         }
     }
 

@@ -74,13 +74,12 @@ impl NodeRecord {
         ensures state { self.new ≡ unless_kept (lag_fault_at (pos (self.old.lag * by.now.factor) +ℤ slice_index_or by.now.shifts.now node (pos 0)) node) (record { lag = natural (pos (self.old.lag * by.now.factor) +ℤ slice_index_or by.now.shifts.now node (pos 0)) }) self.old }
     {
         let scaled = u32::from(self.lag) * by.factor;
-        match scaled.checked_add_signed(by.shift(node)) {
-            Some(lag) if lag <= MAX_LAG => {
-                self.lag = lag as u16;
-                Ok(())
-            }
-            _ => Err(BenchQuestion::Lag.refused(node, 0)),
+        let lag = scaled as i32 + by.shift(node);
+        if lag < 0 || lag > MAX_LAG as i32 {
+            return Err(BenchQuestion::Lag.refused(node, 0));
         }
+        self.lag = lag as u16;
+        Ok(())
     }
 }
 

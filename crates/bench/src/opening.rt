@@ -11,6 +11,7 @@ ghost use Rattle.bench.specs.Walks.{Closed};
 use crate::bench::Bench;
 use crate::order::Order;
 use crate::retimed::Retimed;
+use crate::retiming::Retiming;
 use words::design::Design;
 use words::faults::{DesignQuestion, Fault, Question};
 
@@ -38,10 +39,10 @@ impl Order {
 impl Retimed<'_> {
     /// From an unlisted node on to the one that holds it, and on, until one is met twice: the path, and that node.
     fn walk(&self, order: &Order, start: usize) -> (Order, usize)
-        requires stuck { next self.now.design.now.graph.count (waits self.now.design.now.graph self.now.retiming) order.now ≡ None }
+        requires stuck { next self.now.design.now.graph.count (waits self.now.design.now.graph self.now.retiming.now) order.now ≡ None }
         requires start { start < self.now.design.now.graph.count }
         requires unlisted { has order.now start ≡ false }
-        ensures { Closed self.now.design.now.graph.count (waits self.now.design.now.graph self.now.retiming) result.0 result.1 }
+        ensures { Closed self.now.design.now.graph.count (waits self.now.design.now.graph self.now.retiming.now) result.0 result.1 }
     {
         let mut path = Order::empty();
         let mut node = start;
@@ -61,12 +62,13 @@ impl Bench {
         if cycle.len() < design.count() {
             return Err(DesignQuestion::CycleBuffer.refused(cycle.len(), design.count()));
         }
-        let at_rest = Retimed::at_rest(design);
+        let retiming = Retiming::resting();
+        let at_rest = Retimed::at_rest(design, &retiming);
         let order = at_rest.firing();
         let Some(start) = order.unlisted(design.count()) else {
             return Ok(Bench {
                 design: *design,
-                retiming: at_rest.retiming,
+                retiming,
             });
         };
         let (path, node) = at_rest.walk(&order, start);

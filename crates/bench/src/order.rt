@@ -1,31 +1,33 @@
 //! A list of nodes, as the firing order is one.
 
-ghost use Rattle.std.specs.Prelude.{◌≡◌, ◌<◌, [], ◌∷◌, ◌++◌, length};
+ghost use Rattle.std.specs.Prelude.{◌≡◌, ◌<◌, false, [], ◌∷◌, ◌++◌, length};
+ghost use Rattle.bench.specs.Firing.{has};
 ghost use Rattle.bench.specs.Orders.{rank_of};
 
 use std::marker::Model;
 use words::graph::MAX_NODES;
 
-/// Nodes in the order in which they were listed.
+/// Nodes in the order in which they were listed, and by node its place in the list.
 #[derive(Clone, Copy)]
 pub struct Order {
     nodes: [u8; MAX_NODES],
+    ranks: [Option<u8>; MAX_NODES],
     count: usize,
 }
 
 impl Model for Order {
     ghost use Rattle.std.specs.Prelude.{ℕ, ◌-◌, ◌++◌, List, length, take, replicate};
-    ghost use Rattle.bench.specs.Orders.{Kept, kept_nodes, kept_count};
+    ghost use Rattle.bench.specs.Orders.{Kept, ranks_of, kept_nodes, kept_ranks, kept_count};
 
     ghost Value = { List ℕ };
 
     ghost view = { λ o. take o.count o.nodes };
 
-    ghost invariant = { λ o. Kept o.nodes o.count };
+    ghost invariant = { λ o. Kept o.nodes o.ranks o.count };
 
-    ghost inverse = { λ l. record { nodes = l ++ replicate (32 - length l) 0; count = length l } };
+    ghost inverse = { λ l. record { nodes = l ++ replicate (32 - length l) 0; ranks = ranks_of l; count = length l } };
 
-    ghost inverse_ok = { λ o k i. record { nodes = kept_nodes o.nodes o.count k i; count = kept_count o.nodes o.count k i } };
+    ghost inverse_ok = { λ o k i. record { nodes = kept_nodes o.nodes o.ranks o.count k i; ranks = kept_ranks o.nodes o.ranks o.count k i; count = kept_count o.nodes o.ranks o.count k i } };
 }
 
 impl Order {
@@ -40,10 +42,7 @@ impl Order {
     pub fn rank_of(&self, node: usize) -> Option<u8>
         ensures { result ≡ rank_of self.now node }
     {
-        self.nodes[..self.count]
-            .iter()
-            .position(|&listed| usize::from(listed) == node)
-            .map(|rank| rank as u8)
+        *self.ranks.get(node)?
     }
 
     /// No node listed.
@@ -52,6 +51,7 @@ impl Order {
     {
         Order {
             nodes: [0; MAX_NODES],
+            ranks: [None; MAX_NODES],
             count: 0,
         }
     }
@@ -60,9 +60,11 @@ impl Order {
     pub(crate) fn list(&mut self, node: usize)
         requires room { length self.old < 32 }
         requires node { node < 32 }
+        requires new { has self.old node ≡ false }
         ensures { self.new ≡ self.old ++ node ∷ [] }
     {
         self.nodes[self.count] = node as u8;
+        self.ranks[node] = Some(self.count as u8);
         self.count += 1;
     }
 }

@@ -13,28 +13,23 @@ use words::graph::MAX_NODES;
 #[derive(Clone, Copy)]
 pub(crate) struct Retimed<'a> {
     pub(crate) design: &'a Design,
-    pub(crate) retiming: Retiming,
-    ghost sound: { ∥ Sound design.now.graph retiming ∥₁ },
+    pub(crate) retiming: &'a Retiming,
+    ghost sound: { ∥ Sound design.now.graph retiming.now ∥₁ },
 }
 
 impl<'a> Retimed<'a> {
-    /// A design at rest: K is 1 and no node lags.
-    pub(crate) fn at_rest(design: &'a Design) -> Retimed<'a>
+    /// A design at rest.
+    pub(crate) fn at_rest(design: &'a Design, retiming: &'a Retiming) -> Retimed<'a>
+        requires { retiming.now ≡ at_rest }
         ensures design { result.design.now ≡ design.now }
-        ensures retiming { result.retiming ≡ at_rest }
+        ensures retiming { result.retiming.now ≡ at_rest }
     {
-        Retimed {
-            design,
-            retiming: Retiming {
-                factor: 1,
-                records: [NodeRecord { lag: 0 }; MAX_NODES],
-            },
-        }
+        Retimed { design, retiming }
     }
 
     /// The current delay of a node's feed from a source, `None` where that source does not feed it.
     pub(crate) fn delay(&self, node: usize, source: usize) -> Option<u16>
-        ensures { result ≡ current_delay self.now.design.now.graph self.now.retiming node source }
+        ensures { result ≡ current_delay self.now.design.now.graph self.now.retiming.now node source }
     {
         let delay = self.design.feed(node, source)?;
         Some(self.delay_of(node, source, delay))
@@ -43,7 +38,7 @@ impl<'a> Retimed<'a> {
     /// The current delay of a feed whose delay in the design is known.
     pub(crate) fn delay_of(&self, node: usize, source: usize, delay: u8) -> u16
         requires { feed_at self.now.design.now.graph node source ≡ Some delay }
-        ensures { result ≡ delay_of self.now.retiming node source delay }
+        ensures { result ≡ delay_of self.now.retiming.now node source delay }
     {
         let ahead = self.retiming.ahead(node, delay);
         (ahead - self.retiming.lag(source)) as u16
@@ -52,13 +47,26 @@ impl<'a> Retimed<'a> {
     /// Whether a node hears another at current delay 0.
     pub(crate) fn waits(&self, node: usize, source: usize) -> bool
         requires { source < self.now.design.now.graph.count }
-        ensures { result ≡ waits self.now.design.now.graph self.now.retiming node source }
+        ensures { result ≡ waits self.now.design.now.graph self.now.retiming.now node source }
     {
-        self.delay(node, source) == Some(0)
+        match self.design.feed(node, source) {
+            Some(delay) => self.retiming.ahead(node, delay) == self.retiming.lag(source),
+            None => false,
+        }
     }
 }
 
 impl Retiming {
+    /// K is 1 and no node lags.
+    pub(crate) fn resting() -> Retiming
+        ensures { result ≡ at_rest }
+    {
+        Retiming {
+            factor: 1,
+            records: [NodeRecord { lag: 0 }; MAX_NODES],
+        }
+    }
+
     /// The lag of a source. The input has none, and no record.
     pub(crate) fn lag(&self, source: usize) -> u32
         ensures node { result ≡ lag_at self.now source }

@@ -1,9 +1,10 @@
 //! Writing a design as words.
 
-ghost use Rattle.std.specs.Prelude.{◌≡◌, ◌+◌, ◌<◌, ◌≤◌, ◌∷◌, ◌++◌, length};
+ghost use Rattle.std.specs.Prelude.{◌≡◌, ◌+◌, ◌<◌, ◌≤◌, ◌∷◌, ◌++◌, length, if◌then◌else◌, nat_lt, Ok, Err};
 ghost use Rattle.arrayvec.specs.ArrayVec.{array_vec_len};
 ghost use Rattle.words.specs.Encoding.{encoded, node_word, feed_words};
 ghost use Rattle.bench.specs.Buffers.{Written};
+ghost use Rattle.bench.specs.Refusals.{too_short};
 
 use crate::encode::WordKind;
 use arrayvec::ArrayVec;
@@ -18,14 +19,22 @@ pub(crate) const MAX_DESIGN_WORDS: usize = 1 + MAX_NODES * (1 + SOURCES) + 2;
 /// The words of a design, as far as they are made.
 pub(crate) type DesignWords = ArrayVec<u32, MAX_DESIGN_WORDS>;
 
+/// Question 14, of the words that a buffer has and those that are needed.
+fn ask_room(words: usize, needed: usize) -> Result<(), Fault>
+    ensures { result ≡ (if nat_lt words needed then Err (too_short words needed) else Ok tt) }
+{
+    if words < needed {
+        return Err(BenchQuestion::Buffer.refused(words, needed));
+    }
+    Ok(())
+}
+
 /// Writes words to the front of a buffer, and answers how many there are: question 14.
 pub(crate) fn write_words(from: &[u32], words: &mut [u32]) -> Result<usize, Fault>
     ensures { Written from.now words.old words.new result }
 {
     let needed = from.len();
-    if words.len() < needed {
-        return Err(BenchQuestion::Buffer.refused(words.len(), needed));
-    }
+    ask_room(words.len(), needed)?;
     words[..needed].copy_from_slice(from);
     Ok(needed)
 }
@@ -60,10 +69,11 @@ pub(crate) fn design_words(design: &Design) -> DesignWords
     words
 }
 
-/// Writes a design's words to the front of `words`, and answers how many there are.
+/// Writes a design's words to the front of `words`, and answers how many there are. A buffer that is too short is refused before any is made.
 pub fn write_design(design: &Design, words: &mut [u32]) -> Result<usize, Fault>
     ensures { Written (encoded design.now.graph) words.old words.new result }
 {
+    ask_room(words.len(), design.size())?;
     let written = design_words(design);
     write_words(written.as_slice(), words)
 }

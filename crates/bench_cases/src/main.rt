@@ -7,6 +7,7 @@ use bench::program::MAX_PROGRAM_WORDS;
 use cases::designs::parse_design;
 use cases::moves::Move;
 use cases::printing::{Bits, Row};
+use std::alloc::{AllocError, Global};
 use std::io;
 use std::io::{BufRead, BufReader};
 use words::faults::{DesignFault, Fault};
@@ -99,6 +100,14 @@ fn print_bench<R: AllocGlobal + Print>(rt: &R, bench: &Bench) -> io::Result<()> 
     print_program(rt, bench)
 }
 
+/// What follows `lag` are its shifts, whether a space stands between or not. Where none does, this is the text with one.
+fn with_space(alloc: Global, text: &str) -> Result<Option<String>, AllocError> {
+    match text.strip_prefix("lag") {
+        Some(shifts) if !shifts.starts_with(' ') => Ok(Some(format!(in alloc; "lag {shifts}")?)),
+        _ => Ok(None),
+    }
+}
+
 /// Makes the moves of a case, and prints what each is answered and how the bench stands at the end.
 fn print_moves<R: AllocGlobal + Print>(
     rt: &R,
@@ -107,6 +116,8 @@ fn print_moves<R: AllocGlobal + Print>(
 ) -> anyhow::Result<()> {
     println!(rt; "ok")?;
     for text in moves.split_terminator(';') {
+        let spaced = with_space(rt.alloc(), text)?;
+        let text = spaced.as_deref().unwrap_or(text);
         match bench.make(&Move::parse(rt.alloc(), text)?.call()) {
             Ok(()) => println!(rt; "ok")?,
             Err(fault) => println!(rt; "{fault}")?,
@@ -129,8 +140,9 @@ fn print_case<R: AllocGlobal + Print>(rt: &R, line: &str) -> anyhow::Result<()> 
 fn main(rt: HostRuntime) -> anyhow::Result<()> {
     let lines = BufReader::new(rt.alloc(), rt.reader())?.lines(rt.alloc());
     for (number, line) in lines.enumerate() {
+        let line = line?;
         println!(rt; "case {number}")?;
-        print_case(&rt, line?.as_str())?;
+        print_case(&rt, line.as_str())?;
     }
     Ok(())
 }

@@ -21,10 +21,10 @@ impl Move {
     pub fn parse(alloc: Global, text: &str) -> anyhow::Result<Move>
         ensures { IfOk result (Says text.now) }
     {
-        match text.split_once(' ').unwrap_or((text, "")) {
-            ("lag", shifts) => Ok(Move::Lag(parse_row(alloc, shifts, str::parse::<i32>)?)),
-            ("slow", factor) => Ok(Move::Slow(factor.parse::<u32>()?)),
-            ("settle", _) if text == "settle" => Ok(Move::Settle),
+        match (text.strip_prefix("lag "), text.strip_prefix("slow ")) {
+            (Some(shifts), _) => Ok(Move::Lag(parse_row(alloc, shifts, str::parse::<i32>)?)),
+            (_, Some(factor)) => Ok(Move::Slow(factor.parse::<u32>()?)),
+            _ if text == "settle" => Ok(Move::Settle),
             _ => bail!("a line has no such move"),
         }
     }

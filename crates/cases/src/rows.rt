@@ -16,12 +16,9 @@ pub(crate) fn parse_row<T: Drop, E: Error, F: Fn(&str) -> Result<T, E>>(
     requires { F.IsAlwaysCallable parse }
     ensures { IfOk result (λ row. IsRow (λ item value. FnReturnsAt F.Fn parse item (Ok value)) text.now row.items) }
 {
-    text.split_whitespace()
-        .map(
-            |item| -> anyhow::Result<T>
-                requires { F.IsAlwaysCallable parse }
-                ensures { IfOk result (λ value. FnReturnsAt F.Fn parse item.now (Ok value)) }
-            { parse(item).map_err(anyhow::Error::from) },
-        )
-        .try_collect(alloc)
+    let mut row = Vec::new(alloc);
+    for item in text.split_whitespace() {
+        row.push(parse(item)?)?;
+    }
+    Ok(row)
 }

@@ -31,6 +31,7 @@ fn other_texts_are_errors(rt: HostRuntime) {
     assert!(rt; parse_design(rt.alloc(), "10000002").is_err());
     assert!(rt; parse_design(rt.alloc(), "ten").is_err());
     assert!(rt; Move::parse(rt.alloc(), "halt").is_err());
+    assert!(rt; Move::parse(rt.alloc(), "lag").is_err());
     assert!(rt; Move::parse(rt.alloc(), "slow").is_err());
     assert!(rt; Move::parse(rt.alloc(), "settle 2").is_err());
     assert!(rt; Move::parse(rt.alloc(), "lag 1 x").is_err());

@@ -9,7 +9,7 @@ use Rattle.bench.specs.Orders.{Ranked}
 use Rattle.cells.specs.Meaning.{Meaning, applied}
 use Rattle.machine.specs.declared.cell.Cell.{Cell}
 use Rattle.machine.specs.Values.{heard, operand, Solves}
-use Rattle.machine.specs.Plans.{Planned}
+use Rattle.machine.specs.Plans.{taps_in, Planned}
 use Rattle.machine.specs.Buffers.{value_in}
 use Rattle.machine.specs.Simulation.{Filled}
 use Rattle.machine.proofs.Histories.{operands_alike}
@@ -27,9 +27,9 @@ module _ {E A : Type 0} (g : Graph) (range : InRange g) (order : List ℕ) (rank
   its_rank = ranked.once r (omega (arith, ranked.whole))
 
   -- its value is the design's
-  pub value_is : (cell : Cell) (e : E) → Planned g node cell → e ≡ applied m cell.operation (map (operand (heard rest (value_in n h d) x t)) cell.taps.items) → e ≡ v node t
+  pub value_is : (cell : Cell) (e : E) → Planned g node cell → e ≡ applied m cell.operation (map (operand (heard rest (value_in n h d) x t)) (taps_in cell)) → e ≡ v node t
   value_is cell e planned is =
-      is ∙ ap (λ o. applied m o (map (operand (heard rest (value_in n h d) x t)) cell.taps.items)) planned.operation
+      is ∙ ap (λ o. applied m o (map (operand (heard rest (value_in n h d) x t)) (taps_in cell))) planned.operation
       ∙ ap (λ ts. applied m (node_at g node).operation (map (operand (heard rest (value_in n h d) x t)) ts)) planned.taps
       ∙ ap (applied m (node_at g node).operation) (operands_alike g range order ranked m rest x (value_in n h d) v node t (ranked.below r lr) known)
       ∙ sym (solves node t (ranked.below r lr))

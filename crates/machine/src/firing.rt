@@ -1,10 +1,9 @@
 //! Firing the nodes of a plan at one time.
 
-ghost use Rattle.std.specs.Prelude.{◌≡◌, ◌*◌, ◌≤◌, map, length, drop};
-ghost use Rattle.arrayvec.specs.ArrayVec.{array_vec_len};
+ghost use Rattle.std.specs.Prelude.{◌≡◌, ◌*◌, ◌≤◌, map, length, take, drop};
 ghost use Rattle.cells.specs.Meaning.{applied};
 ghost use Rattle.machine.specs.Values.{operand};
-ghost use Rattle.machine.specs.Plans.{Ready};
+ghost use Rattle.machine.specs.Plans.{taps_in, Ready};
 ghost use Rattle.machine.specs.Buffers.{heard_in};
 ghost use Rattle.machine.specs.Simulation.{Advances};
 
@@ -23,11 +22,11 @@ impl Cell {
     ) -> L::Elem
         requires ready { Ready moment.now.count self.now }
         requires history { moment.now.count * length moment.now.inputs.now ≤ length history.now }
-        ensures value { (d : L.Elem) → result ≡ applied (L.meaning library.old) self.now.operation (map (operand (heard_in moment.now.count moment.now.rest.now moment.now.inputs.now history.now d moment.now.time)) self.now.taps.items) }
+        ensures value { (d : L.Elem) → result ≡ applied (L.meaning library.old) self.now.operation (map (operand (heard_in moment.now.count moment.now.rest.now moment.now.inputs.now history.now d moment.now.time)) (taps_in self.now)) }
         ensures same { L.meaning library.new ≡ L.meaning library.old }
     {
         let mut sum = library.first(self.operation);
-        for tap in self.taps.iter() {
+        for tap in &self.taps[..self.count] {
             let operand = moment.hears(history, *tap);
             sum = library.next(self.operation, tap.source, sum, operand);
         }
@@ -43,14 +42,14 @@ impl Plan {
         moment: &Moment<'_, L::Elem>,
         history: &mut [L::Elem],
     )
-        requires all { array_vec_len self.now.cells ≡ moment.now.count }
+        requires all { self.now.count ≡ moment.now.count }
         requires history { moment.now.count * length moment.now.inputs.now ≤ length history.old }
-        ensures values { Advances self.now.cells.items (L.meaning library.old) moment.now.rest.now moment.now.inputs.now history.old history.new moment.now.time }
+        ensures values { Advances (take self.now.count self.now.cells) (L.meaning library.old) moment.now.rest.now moment.now.inputs.now history.old history.new moment.now.time }
         ensures long { length history.new ≡ length history.old }
         ensures past { drop (moment.now.count * length moment.now.inputs.now) history.new ≡ drop (moment.now.count * length moment.now.inputs.now) history.old }
         ensures same { L.meaning library.new ≡ L.meaning library.old }
     {
-        for cell in self.cells.iter() {
+        for cell in &self.cells[..self.count] {
             let value = cell.value(library, moment, history);
             history[moment.time * moment.count + cell.node] = value;
         }

@@ -10,7 +10,7 @@ mod loading;
 pub mod machine;
 mod moment;
 pub mod named;
-mod plan;
+pub mod plan;
 pub mod simulator;
 mod starting;
 mod step;

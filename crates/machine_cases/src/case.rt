@@ -2,7 +2,7 @@
 
 use crate::element::Element;
 use crate::rows::read_weights;
-use anyhow::Context;
+use anyhow::{Context, bail, ensure};
 use bench::bench::Bench;
 use bench::program::MAX_PROGRAM_WORDS;
 use cases::designs::{parse_design, parse_words};
@@ -13,6 +13,9 @@ use words::graph::MAX_NODES;
 
 /// How many fields a line has, those of the task taken as one.
 const FIELDS: usize = 6;
+
+/// How many a line of a simulation has, those of its own among them.
+const SIMULATION_FIELDS: usize = 9;
 
 /// The fields of a line, which colons part. What the task has of its own comes last.
 #[derive(Clone, Copy)]
@@ -29,6 +32,10 @@ impl<'a> TryFrom<&'a str> for Case<'a> {
     type Error = anyhow::Error;
 
     fn try_from(line: &'a str) -> anyhow::Result<Case<'a>> {
+        ensure!(
+            !line.starts_with("simulate:") || line.split(':').count() == SIMULATION_FIELDS,
+            "a line has not nine fields"
+        );
         let mut fields = line.splitn(FIELDS, ':');
         let mut field = || fields.next().context("a line has too few fields");
         Ok(Case {
@@ -57,7 +64,7 @@ impl Case<'_> {
     }
 
     /// The array program that the bench emits.
-    pub(crate) fn emit_program(self, alloc: Global) -> anyhow::Result<Vec<u32>> {
+    fn emit_program(self, alloc: Global) -> anyhow::Result<Vec<u32>> {
         let mut words = [0; MAX_PROGRAM_WORDS];
         let count = self
             .open_bench(alloc)?
@@ -67,9 +74,13 @@ impl Case<'_> {
         Ok(words[..count].to_vec(alloc)?)
     }
 
-    /// The words of the line as they stand, a design's or not.
-    pub(crate) fn plain_words(self, alloc: Global) -> anyhow::Result<Vec<u32>> {
-        parse_words(alloc, self.words)
+    /// The words that are run: those of the program that the bench emits, or those of the line as they stand, a design's or not.
+    pub(crate) fn program_words(self, alloc: Global) -> anyhow::Result<Vec<u32>> {
+        match self.task {
+            "emit" => self.emit_program(alloc),
+            "load" => parse_words(alloc, self.words),
+            _ => bail!("a line has no such task"),
+        }
     }
 
     /// Cells that sum, with the table of the line.

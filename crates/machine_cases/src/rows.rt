@@ -10,8 +10,9 @@ pub(crate) fn read_row<E: Element>(alloc: Global, text: &str) -> anyhow::Result<
     let mut row = Vec::new(alloc);
     for item in text.split_whitespace() {
         let (times, element) = item.split_once('*').unwrap_or(("1", item));
+        let times = times.parse::<usize>()?;
         let element = E::read(element)?;
-        row.extend((0..times.parse::<usize>()?).map(|_| element))?;
+        row.extend((0..times).map(|_| element))?;
     }
     Ok(row)
 }

@@ -4,9 +4,11 @@ use crate::case::Case;
 use crate::element::{Element, Shown};
 use crate::rows::{fillers_from, read_row};
 use anyhow::Context;
+use bench::bench::Bench;
 use cases::printing::Row;
 use cells::library::CellLibrary;
 use machine::simulator::simulate;
+use std::alloc::Global;
 use std::io;
 
 /// Of a longer run only so many times are printed, the last ones.
@@ -15,22 +17,24 @@ const MAX_SHOWN: usize = 300;
 /// How many fields a simulation has.
 const FIELDS: usize = 4;
 
-/// What a simulation is given, as a line has it, and how long its buffers are.
-#[derive(Clone, Copy)]
-struct Simulation<'a> {
+/// What a simulation is given, its rows as a line has them, and how long its buffers are.
+#[derive(Drop)]
+pub(crate) struct Simulation<'a> {
+    bench: Bench,
     rest: &'a str,
     inputs: &'a str,
     history: usize,
     outputs: usize,
 }
 
-impl<'a> TryFrom<&'a str> for Simulation<'a> {
-    type Error = anyhow::Error;
-
-    fn try_from(text: &'a str) -> anyhow::Result<Simulation<'a>> {
-        let mut fields = text.splitn(FIELDS, ':');
+impl<'a> Simulation<'a> {
+    /// Opens the bench of a case, then reads what the task has of its own.
+    pub(crate) fn read(alloc: Global, case: Case<'a>) -> anyhow::Result<Simulation<'a>> {
+        let bench = case.open_bench(alloc)?;
+        let mut fields = case.own.splitn(FIELDS, ':');
         let mut field = || fields.next().context("a simulation has too few fields");
         Ok(Simulation {
+            bench,
             rest: field()?,
             inputs: field()?,
             history: field()?.parse()?,
@@ -70,23 +74,21 @@ impl<E: Element> Run<'_, E> {
     }
 }
 
-/// Simulates the design of a case on a library, and prints what comes of it.
+/// Simulates on a library, and prints what comes of it.
 pub(crate) fn print_simulation<R: AllocGlobal + Print, L: CellLibrary + Drop>(
     rt: &R,
     mut library: L,
-    case: Case<'_>,
+    simulation: &Simulation<'_>,
 ) -> anyhow::Result<()>
 where
     L::Elem: Element,
 {
-    let bench = case.open_bench(rt.alloc())?;
-    let simulation = Simulation::try_from(case.own)?;
     let rest = read_row(rt.alloc(), simulation.rest)?;
     let inputs = read_row(rt.alloc(), simulation.inputs)?;
     let mut history = vec![in rt.alloc(); L::Elem::FILLER; simulation.history]?;
     let mut outputs = vec![in rt.alloc(); L::Elem::FILLER; simulation.outputs]?;
     let answer = simulate(
-        &bench,
+        &simulation.bench,
         &mut library,
         &rest,
         &inputs,
@@ -94,7 +96,7 @@ where
         &mut outputs,
     );
     let run = Run {
-        count: bench.design().count(),
+        count: simulation.bench.design().count(),
         times: if answer.is_ok() { inputs.len() } else { 0 },
         history: &history,
         outputs: &outputs,

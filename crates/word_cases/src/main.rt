@@ -1,7 +1,7 @@
 //! Reads inputs as lines of hexadecimal bytes, and prints for each its design's words, or its refusal.
 #![tactic(auto)]
 
-use anyhow::{Context, bail};
+use anyhow::Context;
 use bench::inputs::{MAX_TEXT, list_input};
 use std::alloc::Global;
 use std::io;
@@ -12,15 +12,14 @@ const MAX_LINE: usize = 16384;
 
 /// Reads a line's bytes, each of two digits in upper case.
 fn parse_bytes(alloc: Global, line: &str) -> anyhow::Result<Vec<u8>> {
-    if line.bytes().any(|digit| digit.is_ascii_lowercase()) {
-        bail!("a line has a digit in lower case");
-    }
-    if line.len() / 2 > MAX_LINE {
-        bail!("a line is too long");
-    }
-    hex::decode(alloc, line)
-        .ok()
-        .context("a line is no list of bytes")
+    let is_plain = line.len() / 2 <= MAX_LINE
+        && !line.bytes().any(|digit| digit.is_ascii_lowercase());
+    let bytes = if is_plain {
+        hex::decode(alloc, line).ok()
+    } else {
+        None
+    };
+    bytes.context("a line is no list of bytes")
 }
 
 /// Prints a line's number, and its design's words or its refusal. A line that is no list of bytes has no number printed.

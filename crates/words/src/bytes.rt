@@ -1,22 +1,30 @@
 //! Bytes to words.
 
-ghost use Rattle.std.specs.Prelude.{◌≡◌, ◌<◌, [], length, slice_index_or};
+ghost use Rattle.std.specs.Prelude.{◌≡◌, ◌≤◌, length, map, take};
 ghost use Rattle.words.specs.Bytes.{Packs, word_at};
 
 use crate::faults::{Fault, WordsQuestion};
 use crate::input::{InputWords, MAX_WORDS};
-use std::array;
 
 /// How many bytes of an input are taken at the most.
 pub const MAX_BYTES: usize = 4 * MAX_WORDS;
 
-/// The word of pack `k`, its first byte the highest; 0 past the packs.
-fn word_at(packs: &[[u8; 4]], k: usize) -> u32
-    ensures { k < length packs.now → result ≡ word_at (slice_index_or packs.now k []) 0 }
+/// The word of a pack, its first byte the highest.
+fn word_of(pack: &[u8; 4]) -> u32
+    ensures { result ≡ word_at pack.now 0 }
 {
-    packs
-        .get(k)
-        .map_or(0, |&[a, b, c, d]| u32::from_be_bytes([a, b, c, d]))
+    let [a, b, c, d] = *pack;
+    u32::from_be_bytes([a, b, c, d])
+}
+
+/// Fills the front of `words` with the words of packs.
+fn fill(packs: &[[u8; 4]], words: &mut [u32])
+    requires { length packs.now ≤ length words.old }
+    ensures { take (length packs.now) words.new ≡ map (λ pack. word_at pack 0) packs.now }
+{
+    for (k, pack) in packs.iter().enumerate() {
+        words[k] = word_of(pack);
+    }
 }
 
 impl TryFrom<&[u8]> for InputWords {
@@ -30,8 +38,10 @@ impl TryFrom<&[u8]> for InputWords {
         if !left_over.is_empty() {
             return Err(WordsQuestion::Word.at(packs.len()));
         }
+        let mut words = [0; MAX_WORDS];
+        fill(packs, &mut words);
         Ok(InputWords {
-            words: array::from_fn(|k| word_at(packs, k)),
+            words,
             count: packs.len(),
         })
     }

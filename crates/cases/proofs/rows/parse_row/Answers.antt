@@ -1,13 +1,19 @@
-use Rattle.std.proofs.Common.{◌≡◌, IfOk, Ok, List, ℕ, ap, ◌∙◌, subst}
+use Rattle.std.proofs.Common.{refl, sym, ap, ◌∙◌}
+use Rattle.std.proofs.lemmas.Fn.{says_at}
 use Rattle.std.specs.Str.Iter.{split_whitespace_rest}
-use Rattle.std.specs.Fn.{FnReturnsAt}
-use Rattle.cases.specs.Rows.{IsRow}
-use Rattle.cases.proofs.ItemLemmas.{row_from_try_collect}
+use Rattle.cases.proofs.ItemLemmas.{reads_next, reads_all}
 use Rattle.cases.proofs.rows.parse_row.Goals as goal
 
+-- nothing is read yet, and the whole text is left
+pub loop-item-init : goal.loop-item-init
+loop-item-init g c more row =
+    rw (c.new-row.ensures.items, sym (ap split_whitespace_rest c.into_iter-item-iterator.ensures.into_iter_gives ∙ c.split_whitespace-item-items.ensures.rest)) row
+
+pub loop-item-preserved : goal.loop-item-preserved
+loop-item-preserved g c =
+    let read = says_at g.F.Fn c.in_ok-parse.ensures refl in
+    rw (c.in_ok-push.ensures.items)
+    (reads_next _ _ c.loop-item.item-iterator c.next.new.self _ c.loop-item.invariant c.in-Some.item c.in_ok-parse.field-0 c.in-Some.ensures.steps read)
+
 pub returns : goal.returns
-returns g c =
-    let StandsFor : List ℕ → g.row.T.Denot → Type 0 = λ item value. FnReturnsAt g.F.Fn c.args.parse item (Ok value) in
-    subst (λ text. IfOk c.try_collect.result (λ row. IsRow StandsFor text row.items)) (ap split_whitespace_rest c.map.ensures.source ∙ c.split_whitespace.ensures.rest)
-    (row_from_try_collect _ StandsFor (λ f. f.0.now ≡ c.args.parse) _ c.try_collect.result c.try_collect.ensures.ran (ap (λ f. f.0.now) c.map.ensures.closure)
-    (λ f item value q kept called. (ap (λ p. p.now) called.met.0 ∙ kept, subst (λ p. FnReturnsAt g.F.Fn p item.now (Ok value)) kept called.met.1)))
+returns g c = reads_all _ _ c.loop-item.item-iterator c.next.new.self _ c.loop-item.invariant c.in-None.ensures.steps

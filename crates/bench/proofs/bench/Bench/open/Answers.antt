@@ -45,9 +45,9 @@ invariant_of-result c =
     let g : Graph = c.args.design.now.graph in
     let rest = c.at_rest-at_rest.ensures in
     record {
-      sound = ∣ subst (λ p. Sound g p) (sym rest.retiming) (sound_rest g (ranges g c.args.design.now.sound)) ∣₁;
+      sound = ∣ subst (λ p. Sound g p) (sym c.resting-retiming.ensures) (sound_rest g (ranges g c.args.design.now.sound)) ∣₁;
       ordered =
-          whole c.args.design.now c.at_rest-at_rest.result.design.now c.at_rest-at_rest.result.retiming rest.design rest.retiming c.firing-order.result c.firing-order.ensures
+          whole c.args.design.now c.at_rest-at_rest.result.design.now c.at_rest-at_rest.result.retiming.now rest.design rest.retiming c.firing-order.result c.firing-order.ensures
           c.count-2.result c.count-2.ensures c.unlisted.result c.unlisted.ensures c.in_default.is;
     }
 
@@ -55,24 +55,22 @@ pub returns-in_default : goal.returns-in_default
 returns-in_default c =
     let rest = c.at_rest-at_rest.ensures in
     let all =
-    whole c.args.design.now c.at_rest-at_rest.result.design.now c.at_rest-at_rest.result.retiming rest.design rest.retiming c.firing-order.result c.firing-order.ensures
+    whole c.args.design.now c.at_rest-at_rest.result.design.now c.at_rest-at_rest.result.retiming.now rest.design rest.retiming c.firing-order.result c.firing-order.ensures
     c.count-2.result c.count-2.ensures c.unlisted.result c.unlisted.ensures c.in_default.is in
     record {
       short = λ l. absurd (omega (arith, c.if-cycle-count.false, c.count.ensures));
-      opens = λ l. (well_defined c.args.design.now.graph all, refl, rest.retiming, refl);
+      opens = λ l. (well_defined c.args.design.now.graph all, refl, c.resting-retiming.ensures, refl);
     }
 
 pub walk-path-requires : goal.walk-path-requires
 walk-path-requires c =
     let rest = c.at_rest-at_rest.ensures in
     let s =
-    stuck c.args.design.now c.at_rest-at_rest.result.design.now c.at_rest-at_rest.result.retiming rest.design rest.retiming c.firing-order.result c.firing-order.ensures
+    stuck c.args.design.now c.at_rest-at_rest.result.design.now c.at_rest-at_rest.result.retiming.now rest.design rest.retiming c.firing-order.result c.firing-order.ensures
     c.count-2.result c.count-2.ensures c.unlisted.result c.unlisted.ensures c.in-Some.start c.in-Some.is in
     record { stuck = s.2; start = s.0; unlisted = s.1 }
 
-pub copy_from-requires-clause-rank : goal.copy_from-requires-clause-rank
-copy_from-requires-clause-rank c = rw c.from.ensures (rank_is c.walk-path.result.0 c.walk-path.result.1 c.unwrap-rank.result (sym c.rank_of.ensures ∙ c.unwrap-rank.ensures)).2
-
+-- this stands before what `copy_from` asks, so that the check names another cycle first by what is promised of it
 pub returns : goal.returns
 unfolding round
 returns c =
@@ -81,7 +79,7 @@ returns c =
     let path : List ℕ = c.walk-path.result.0 in
     let node : ℕ = c.walk-path.result.1 in
     let closed =
-    closed_at_rest c.args.design.now c.at_rest-at_rest.result.design.now c.at_rest-at_rest.result.retiming rest.design rest.retiming c.firing-order.result c.firing-order.ensures path node c.walk-path.ensures in
+    closed_at_rest c.args.design.now c.at_rest-at_rest.result.design.now c.at_rest-at_rest.result.retiming.now rest.design rest.retiming c.firing-order.result c.firing-order.ensures path node c.walk-path.ensures in
     let at : c.from.result ≡ place_in path node = c.from.ensures ∙ (rank_is path node c.unwrap-rank.result (sym c.rank_of.ensures ∙ c.unwrap-rank.ensures)).1 in
     record {
       short = λ l. absurd (omega (arith, c.if-cycle-count.false, c.count.ensures));
@@ -93,3 +91,6 @@ returns c =
         c.copy_from.ensures.buffer ∙ ap (λ n. overlaid c.args.cycle.now 0 (drop n path)) at,
       );
     }
+
+pub copy_from-requires-clause-rank : goal.copy_from-requires-clause-rank
+copy_from-requires-clause-rank c = rw c.from.ensures (rank_is c.walk-path.result.0 c.walk-path.result.1 c.unwrap-rank.result (sym c.rank_of.ensures ∙ c.unwrap-rank.ensures)).2

@@ -33,21 +33,7 @@ ranks_by_node-ranks-requires c =
     let fires = c.order.ensures.fires in
     record { few = omega (arith, fires.whole, (ranges c.args.self.now.design.graph c.args.self.now.design.sound).few); whole = λ i l. fires.every i (omega (arith, fires.whole)) }
 
-pub invariant_of-rescale : goal.invariant_of-rescale
-invariant_of-rescale c =
-    let g : Graph = c.args.self.now.design.graph in
-    let p : Retiming = c.args.self.now.retiming in
-    let r = ranges g c.args.self.now.design.sound in
-    let o : List ℕ = c.order.result in
-    let row : take (c.count-count.result - 0) c.ranks_by_node-ranks.result ≡ ranks g p =
-    ranks_row g r.few p o c.order.ensures.listed c.order.ensures.fires
-    c.ranks_by_node-ranks.result c.count-count.result c.count-count.ensures c.ranks_by_node-ranks.ensures.ranks in
-    record {
-      positive = omega (arith, r.some, c.count-count.ensures);
-      slow = omega (arith, r.few, c.count-count.ensures);
-      fits = λ i. ap (λ l. is_shift (get_or l i (pos 0))) row ∙ ranks_fit g r.few p o c.order.ensures.listed c.order.ensures.fires i;
-    }
-
+-- this stands before what `rescale` asks, so that the check names another row of shifts first by what is promised of it
 pub returns : goal.returns
 unfolding settle_fault
 returns c =
@@ -66,4 +52,19 @@ returns c =
       design = c.rescale.ensures.design;
       retiming = retiming;
       systolic = λ ok. accepted g few p s (fires_order g few p s c.args.self.now.ordered) c.rescale.new.self.retiming end (sym answer ∙ ok) retiming;
+    }
+
+pub invariant_of-rescale : goal.invariant_of-rescale
+invariant_of-rescale c =
+    let g : Graph = c.args.self.now.design.graph in
+    let p : Retiming = c.args.self.now.retiming in
+    let r = ranges g c.args.self.now.design.sound in
+    let o : List ℕ = c.order.result in
+    let row : take (c.count-count.result - 0) c.ranks_by_node-ranks.result ≡ ranks g p =
+    ranks_row g r.few p o c.order.ensures.listed c.order.ensures.fires
+    c.ranks_by_node-ranks.result c.count-count.result c.count-count.ensures c.ranks_by_node-ranks.ensures.ranks in
+    record {
+      positive = omega (arith, r.some, c.count-count.ensures);
+      slow = omega (arith, r.few, c.count-count.ensures);
+      fits = λ i. ap (λ l. is_shift (get_or l i (pos 0))) row ∙ ranks_fit g r.few p o c.order.ensures.listed c.order.ensures.fires i;
     }

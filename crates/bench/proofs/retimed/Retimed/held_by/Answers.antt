@@ -9,4 +9,4 @@ use Rattle.bench.proofs.retimed.Retimed.held_by.Goals as goal
 pub returns : goal.returns
 returns c =
     let g : Graph = c.args.self.now.design.now.graph in
-    first_from_find _ (λ j. waits g c.args.self.now.retiming c.args.node j && not (has c.args.order.now j)) g.count (cc) c.find.ensures.ran (λ x b h k. (search rules, λ l. search (rules, tests, has_rank)))
+    first_from_find _ (λ j. waits g c.args.self.now.retiming.now c.args.node j && not (has c.args.order.now j)) g.count (cc) c.find.ensures.ran (λ x b h k. (search rules, λ l. search (rules, tests, has_rank)))

@@ -9,4 +9,4 @@ use Rattle.bench.proofs.retimed.Retimed.next.Goals as goal
 pub returns : goal.returns
 returns c =
     let g : Graph = c.args.self.now.design.now.graph in
-    first_where _ (ready g.count (waits g c.args.self.now.retiming) c.args.order.now) g.count (cc) c.find.ensures.ran (λ x b h k. (search rules, λ l. search (rules, tests, has_rank)))
+    first_where _ (ready g.count (waits g c.args.self.now.retiming.now) c.args.order.now) g.count (cc) c.find.ensures.ran (λ x b h k. (search rules, λ l. search (rules, tests, has_rank)))

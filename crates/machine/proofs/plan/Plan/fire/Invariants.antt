@@ -1,4 +1,4 @@
-use Rattle.std.proofs.Common.{◌≡◌, ℕ, ◌*◌, List, length, drop}
+use Rattle.std.proofs.Common.{◌≡◌, ℕ, ◌*◌, List, length, take, drop}
 use Rattle.words.specs.declared.graph.Graph.{Graph}
 use Rattle.words.specs.Designs.{InRange, feed_at}
 use Rattle.bench.specs.Orders.{Ranked}
@@ -15,7 +15,7 @@ invariant-loop-cell g l =
     record {
       same : m l.library ≡ m l.initial.library;
       past : drop places l.history ≡ drop places l.initial.history;
-      filled : (graph : Graph) (order : List ℕ) → InRange graph → Ranked graph.count (feed_at graph) order → Whole graph order l.self.cells.items →
+      filled : (graph : Graph) (order : List ℕ) → InRange graph → Ranked graph.count (feed_at graph) order → Whole graph order (take l.self.count l.self.cells) →
           (d : g.row.L-Elem.Denot) (v : ℕ → ℕ → g.row.L-Elem.Denot) → Solves graph (m l.initial.library) (rest_in graph.count l.moment.rest.now d) (input_in l.moment.inputs.now d) v →
           Filled graph.count order v l.initial.history d l.moment.time 0 → Filled graph.count order v l.history d l.moment.time l.cell-index;
     }

@@ -1,11 +1,11 @@
-use Rattle.std.proofs.Common.{◌≡◌, ℕ, zero, suc, ◌+◌, ◌*◌, ◌/◌, ◌%◌, ◌<◌, ◌≤◌, min, List, [], length, get_or, map, take, drop, sym, ap, ◌∙◌, subst, ⊎_elim, rules, arith}
+use Rattle.std.proofs.Common.{◌≡◌, ℕ, zero, suc, ◌+◌, ◌*◌, ◌/◌, ◌%◌, ◌<◌, ◌≤◌, min, List, [], length, get_or, map, take, drop, sym, ap, ◌∙◌, ⊎_elim, arith}
 use Rattle.std.specs.Simd.{first_chunks}
 use Rattle.std.specs.List.{range_with_len}
-use Rattle.std.proofs.lemmas.List.{length-take, take_all, get_or-take, get_or-drop}
+use Rattle.std.proofs.lemmas.List.{length-take, length-map, take_all, get_or-take, get_or-drop, get_or-map}
+use Rattle.std.proofs.lemmas.List.FromFn.{fill_by_all}
 use Rattle.std.proofs.lemmas.Bool.{cases_lt, eqb-true, eq-eqb, true≢false}
 use Rattle.words.specs.Bytes.{word_at, taken, packed, max_bytes}
 use Rattle.words.specs.Refusals.{no_word}
-use Rattle.words.proofs.Made.{made_front}
 use Rattle.words.proofs.bytes.InputWordsTryFromRefSliceU8.try_from.Goals as goal
 
 -- the part of the bytes that is packed is what is taken
@@ -36,6 +36,15 @@ word_of n k xs l =
     ∙ ap (λ a. ((get_or xs (4 * k) 0 * 256 + get_or xs (4 * k + 1) 0) * 256 + a) * 256 + get_or p 3 0) (byte_of n k 2 xs l (omega arith))
     ∙ ap (λ a. ((get_or xs (4 * k) 0 * 256 + get_or xs (4 * k + 1) 0) * 256 + get_or xs (4 * k + 2) 0) * 256 + a) (byte_of n k 3 xs l (omega arith))
 
+-- so the words of the packs are those of the bytes
+words_packed : (n : ℕ) (xs : List ℕ) (packs : List (List ℕ)) → packs ≡ first_chunks 4 n xs → length packs ≡ n → map (λ pack. word_at pack 0) packs ≡ map (word_at xs) (range_with_len 0 n)
+words_packed n xs packs e long =
+    fill_by_all (word_at xs) (map (λ pack. word_at pack 0) packs) n 0 (length-map packs (λ pack. word_at pack 0) ∙ long) (λ k l.
+    get_or-map (λ (pack : List ℕ). word_at pack 0) packs k [] 0 (omega (arith, long)) ∙ ap (λ ps. word_at (get_or ps k []) 0) e ∙ word_of n k xs l)
+
+pub fill-requires : goal.fill-requires
+fill-requires c = few c.args.bytes.now c.min.result _ c.min.ensures c.as_chunks.ensures.front_len
+
 pub returns-then-not-is_empty : goal.returns-then-not-is_empty
 returns-then-not-is_empty c =
     let p = part c.args.bytes.now c.min.result c.min.ensures in (
@@ -52,13 +61,6 @@ returns c =
     let p = part c.args.bytes.now c.min.result c.min.ensures in
     let packs = c.as_chunks.ensures in (
       ap (λ xs. length xs % 4) (sym p) ∙ sym packs.back_len ∙ eqb-true _ _ (sym c.if-not-is_empty.ensures),
-      made_front (word_at bs) (length c.as_chunks.result.0.now) c.from_fn.result (λ k w q called. (
-        search rules,
-        λ l.
-            let e : w ≡ word_at (get_or c.as_chunks.result.0.now k []) 0 = search rules in
-            let l' : k < length bs / 4 = subst (λ n. k < n) packs.front_len l in
-            e ∙ ap (λ ps. word_at (get_or ps k []) 0) packs.front ∙ word_of (length bs / 4) k bs l',
-      )) 1092 0 (few c.args.bytes.now c.min.result _ c.min.ensures packs.front_len) c.from_fn.ensures.items
-          ∙ ap (λ n. map (word_at bs) (range_with_len 0 n)) packs.front_len
+      c.fill.ensures ∙ words_packed (length bs / 4) bs c.as_chunks.result.0.now packs.front packs.front_len
           ∙ ap packed p,
     )
