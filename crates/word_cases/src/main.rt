@@ -10,10 +10,12 @@ use std::io::{BufRead, BufReader, Write};
 /// The most bytes that a line may have.
 const MAX_LINE: usize = 16384;
 
-/// Reads a line's bytes, each of two digits in upper case.
+/// Reads a line's bytes, each of two digits in upper case. All digits are looked at, since a test that stops at the first takes longer.
 fn parse_bytes(alloc: Global, line: &str) -> anyhow::Result<Vec<u8>> {
     let is_plain = line.len() / 2 <= MAX_LINE
-        && !line.bytes().any(|digit| digit.is_ascii_lowercase());
+        && !line
+            .bytes()
+            .fold(false, |lower, digit| lower | digit.is_ascii_lowercase());
     let bytes = if is_plain {
         hex::decode(alloc, line).ok()
     } else {
